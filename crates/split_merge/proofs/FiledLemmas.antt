@@ -6,6 +6,7 @@ use Rattle.doc_value.specs.declared.schema.Schema.{Schema}
 use Rattle.doc_value.specs.Documents.{IsSchema}
 use Rattle.split_states.specs.declared.facts.Times.{Times}
 use Rattle.split_bundle.specs.declared.placed.Placed.{Placed}
+use Rattle.split_bundle.specs.Columns.{fast_fields}
 use Rattle.split_bundle.specs.Documents.{total_weight}
 use Rattle.split_bundle.specs.Splits.{AreDocumentsOf, IsSplit}
 use Rattle.split_build.specs.declared.builder.BuiltSplit.{BuiltSplit}
@@ -24,6 +25,7 @@ use Rattle.split_build.proofs.TakenLemmas.{body_weighs, weight_more}
 use Rattle.split_merge.specs.declared.kept.KeptDocuments.{KeptDocuments}
 use Rattle.split_merge.specs.Kept.{AreSectionsOf, AreToWrite, HasKept}
 use Rattle.split_merge.specs.Merging.{HoldsDocuments}
+use Rattle.split_merge.proofs.CellGains.{all_columns}
 
 -- ---- a document more
 
@@ -46,29 +48,29 @@ module _ (s : Schema) (ds : List Placed) (k : KeptDocuments) (schema : IsSchema 
   are_documents : AreDocumentsOf s ds
   are_documents = record { schema = schema; of_schema = h.of_schema; held = h.held; light = within.light }
 
-  pub to_write : AreToWrite s ds k.documents k.columns.items
-  to_write = record { are_documents = are_documents; bodies = h.bodies; columns_are = h.columns }
+  pub to_write : AreToWrite s ds k.documents k.facts.columns.items
+  to_write = record { are_documents = are_documents; bodies = h.bodies; columns_are = all_columns ds (fast_fields s) k.facts.columns.items h.facts.columns }
 
   weight_is : k.weight ≡ total_weight ds
   weight_is = omega (arith, h.weight, within.light)
 
-  pub are_facts : (r : BuiltSplit) (file : List ℕ) → r.bytes ≡ file → r.facts.docs ≡ k.count → r.facts.rejected ≡ 0 → r.facts.weight ≡ k.weight → r.facts.size ≡ length file → r.facts.digest ≡ sha256 file → r.facts.times ≡ k.times
+  pub are_facts : (r : BuiltSplit) (file : List ℕ) → r.bytes ≡ file → r.facts.docs ≡ k.facts.count → r.facts.rejected ≡ 0 → r.facts.weight ≡ k.weight → r.facts.size ≡ length file → r.facts.digest ≡ sha256 file → r.facts.times ≡ k.facts.times
       → AreTagsOf ds (tag_numbers 0 s.fields) r.facts.tags → AreFacts s ds 0 r.bytes r.facts
   are_facts r file bytes count rejected heavy size digest times tags = record {
-    docs = count ∙ h.count;
+    docs = count ∙ h.facts.count;
     rejected_are = rejected;
     weight = heavy ∙ weight_is;
     size = size ∙ sym (ap (λ (l : List ℕ). length l) bytes);
     digest = digest ∙ sym (ap (λ (l : List ℕ). sha256 l) bytes);
-    times = subst (λ (t : Option Times). AreTimes (seconds_in s.timestamp ds) t) (sym times) h.times;
+    times = subst (λ (t : Option Times). AreTimes (seconds_in s.timestamp ds) t) (sym times) h.facts.times;
     tags = tags;
   }
 
-  pub holds_documents : (r : BuiltSplit) (file : List ℕ) (f : FileParts) (keys : List (List ℕ)) → r.bytes ≡ file → AreFacts s ds 0 r.bytes r.facts → f.docs ≡ k.count → AreSectionsOf s ds f → IsFileOf (parts_of f keys) file → HoldsDocuments s ds r
+  pub holds_documents : (r : BuiltSplit) (file : List ℕ) (f : FileParts) (keys : List (List ℕ)) → r.bytes ≡ file → AreFacts s ds 0 r.bytes r.facts → f.docs ≡ k.facts.count → AreSectionsOf s ds f → IsFileOf (parts_of f keys) file → HoldsDocuments s ds r
   holds_documents r file f keys bytes facts docs sections is = record {
     parts = parts_of f keys;
     bytes_are = bytes ∙ is.bytes;
-    docs = docs ∙ h.count;
+    docs = docs ∙ h.facts.count;
     partitions = sections.partitions;
     documents_are = sections.documents_are;
     columns = sections.columns;
@@ -76,11 +78,11 @@ module _ (s : Schema) (ds : List Placed) (k : KeptDocuments) (schema : IsSchema 
     within = within;
   }
 
-  pub is_built : (r : BuiltSplit) (file : List ℕ) (f : FileParts) (terms : AreTermParts s ds f.terms) → r.bytes ≡ file → AreFacts s ds 0 r.bytes r.facts → f.docs ≡ k.count → AreSectionsOf s ds f → IsFileOf (parts_of f terms.keys) file → length file < 2 ^ 64 → IsBuilt s ds r
+  pub is_built : (r : BuiltSplit) (file : List ℕ) (f : FileParts) (terms : AreTermParts s ds f.terms) → r.bytes ≡ file → AreFacts s ds 0 r.bytes r.facts → f.docs ≡ k.facts.count → AreSectionsOf s ds f → IsFileOf (parts_of f terms.keys) file → length file < 2 ^ 64 → IsBuilt s ds r
   is_built r file f terms bytes facts docs sections is small =
       let parts : ArePartsOf s ds f = record { partitions = sections.partitions; documents_are = sections.documents_are; terms = terms; columns = sections.columns } in
       record {
-        split = subst (λ (l : List ℕ). IsSplit s l ds) (sym bytes) (is_split s ds f file parts are_documents (docs ∙ h.count) is small);
+        split = subst (λ (l : List ℕ). IsSplit s l ds) (sym bytes) (is_split s ds f file parts are_documents (docs ∙ h.facts.count) is small);
         facts = facts;
         within = within;
       }

@@ -1,5 +1,5 @@
 -- One value more of a field of a document.
-use Rattle.std.proofs.Common.{◌≡◌, ℕ, ◌<◌, Bool, true, false, List, [], ◌∷◌, ◌++◌, Option, Some, None, refl, sym, ap, subst, ◌∙◌, arith, append_assoc, eq-eqb}
+use Rattle.std.proofs.Common.{◌≡◌, ℕ, ◌+◌, ◌<◌, length-append, Bool, true, false, List, [], ◌∷◌, ◌++◌, Option, Some, None, refl, sym, ap, subst, ◌∙◌, arith, append_assoc, eq-eqb}
 use Rattle.std.specs.Prelude.{ℤ, ◌==◌, if◌then◌else◌}
 use Rattle.std.specs.List.{AllByRecursion, flat_map}
 use Rattle.std.proofs.lemmas.Bool.{ne_eqb}
@@ -9,12 +9,14 @@ use Rattle.doc_value.specs.declared.doc.Value.{Value}
 use Rattle.query_ast.specs.Meaning.{values_in}
 use Rattle.split_states.specs.declared.facts.Times.{Times}
 use Rattle.split_bundle.specs.declared.placed.Placed.{Placed}
+use Rattle.split_bundle.specs.Columns.{fast_fields}
 use Rattle.split_build.specs.declared.tags.TagLog.{TagLog}
 use Rattle.doc_value.specs.declared.schema.Schema.{Schema}
 use Rattle.split_build.specs.HeldTags.{HasTags, HasTerms, HasTermsOf}
 use Rattle.split_build.specs.Tags.{tag_numbers, term_of, terms_in}
 use Rattle.split_build.specs.Times.{AreTimes, second_of, seconds_in}
 use Rattle.split_build.proofs.TakenLemmas.{seconds_more, terms_more}
+use Rattle.split_merge.proofs.CellGains.{none_columns, same_columns}
 use Rattle.split_merge.specs.declared.facts.FieldFacts.{FieldFacts}
 use Rattle.split_merge.specs.Facts.{HasFacts}
 use Rattle.split_merge.specs.Lent.{Gains}
@@ -115,7 +117,13 @@ module _ (ds : List Placed) (d e : Placed) (same : (n : ℕ) → values_in e.doc
       subst (λ (zs : List ℤ). AreTimes zs times) (seconds_more n ds d ∙ ap (λ (vs : List Value). seconds_in (Some n) ds ++ flat_map second_of vs) (sym (same n)) ∙ sym (seconds_more n ds e)) h
 
   pub same_facts : (f : FieldFacts) (s : Schema) → HasFacts f s (ds ++ d ∷ []) → HasFacts f s (ds ++ e ∷ [])
-  same_facts f s h = record { timestamp = h.timestamp; tags = same_tags (tag_numbers 0 s.fields) f.tags.items h.tags; times = same_times s.timestamp f.times h.times }
+  same_facts f s h = record {
+    count = omega (arith, h.count, length-append ds (d ∷ []), length-append ds (e ∷ []));
+    timestamp = h.timestamp;
+    tags = same_tags (tag_numbers 0 s.fields) f.tags.items h.tags;
+    times = same_times s.timestamp f.times h.times;
+    columns = same_columns ds d e same (fast_fields s) f.columns.items h.columns;
+  }
 
 -- a field without values
 pub none_gained : (fs : List DocField) (number : ℕ) → AllByRecursion (λ f. f.number < number) fs → (n : ℕ) → values_in (fs ++ record { number = number; values = [] } ∷ []) n ≡ values_in fs n
@@ -132,8 +140,14 @@ none_gained (f ∷ fs) number below n = by (f.number == n) (none_gained fs numbe
     by false e = e
 
 -- a document without values
-pub none_added : (f : FieldFacts) (s : Schema) (ds : List Placed) (d : Placed) → d.doc ≡ [] → HasFacts f s ds → HasFacts f s (ds ++ d ∷ [])
-none_added f s ds d none h = record { timestamp = h.timestamp; tags = tags (tag_numbers 0 s.fields) f.tags.items h.tags; times = times s.timestamp h.times }
+pub none_added : (f : FieldFacts) (n : ℕ) (s : Schema) (ds : List Placed) (d : Placed) → n ≡ f.count + 1 → d.doc ≡ [] → HasFacts f s ds → HasFacts (record f { count = n }) s (ds ++ d ∷ [])
+none_added f n s ds d more none h = record {
+  count = omega (arith, more, h.count, length-append ds (d ∷ []));
+  timestamp = h.timestamp;
+  tags = tags (tag_numbers 0 s.fields) f.tags.items h.tags;
+  times = times s.timestamp h.times;
+  columns = none_columns ds d none (fast_fields s) f.columns.items h.columns;
+}
   where
     empty : (n : ℕ) → values_in d.doc n ≡ []
     empty n = ap (λ (doc : List DocField). values_in doc n) none

@@ -1,13 +1,11 @@
 -- A key is written behind others.
-use Rattle.std.proofs.Common.{◌≡◌, ℕ, ◌+◌, ◌≤◌, Bool, List, [], ◌∷◌, ◌++◌, length, sym, ◌∙◌, ap, subst, arith, length-append}
+use Rattle.std.proofs.Common.{◌≡◌, ℕ, ◌+◌, List, [], ◌∷◌, ◌++◌, length, sym, ◌∙◌, ap, subst, arith, length-append}
 use Rattle.std.specs.List.{flat_map}
 use Rattle.doc_value.specs.declared.schema.Schema.{Schema}
 use Rattle.term_dict.specs.declared.term.Term.{Term}
 use Rattle.term_dict.specs.declared.term.TermInfo.{TermInfo}
 use Rattle.term_dict.specs.Builders.{HasTaken, term_with}
-use Rattle.term_postings.specs.Postings.{AreDocuments, list_bytes, position_bytes}
-use Rattle.term_postings.specs.Rows.{AppendsList}
-use Rattle.term_postings.specs.declared.list.Posting.{Posting}
+use Rattle.term_postings.specs.Postings.{AreDocuments}
 use Rattle.term_postings.proofs.Lists.{all_both}
 use Rattle.split_bundle.specs.declared.placed.Placed.{Placed}
 use Rattle.split_bundle.specs.Lists.{keeps_places, posting_list, list_of, places_in, term_of, terms_of}
@@ -18,13 +16,6 @@ use Rattle.split_merge.specs.Terms.{HasJoined}
 
 longer : (xs ys zs : List ℕ) → zs ≡ xs ++ ys → length zs ≡ length xs + length ys
 longer xs ys zs is = ap (λ (l : List ℕ). length l) is ∙ length-append xs ys
-
--- what was appended has room
-pub not_shorter : (kept : Bool) (ps : List Posting) (postings places now now_places : List ℕ) → AppendsList kept ps postings places now now_places → (length postings ≤ length now) × (length places ≤ length now_places)
-not_shorter kept ps postings places now now_places h = (
-  omega (arith, longer postings (list_bytes kept ps) now h.postings_are),
-  omega (arith, longer places (position_bytes ps) now_places h.positions_are),
-)
 
 module _ (s : Schema) (ds : List Placed) (keys : List (List ℕ)) (key : List ℕ) (info : TermInfo) (old : JoinedTerms) (now_postings now_positions : List ℕ) (h : HasJoined old s ds keys)
     (l : IsListed s ds key old.postings.items old.positions.items now_postings now_positions) where

@@ -1,5 +1,5 @@
 -- Documents that are taken as they are read.
-use Rattle.std.proofs.Common.{◌≡◌, ℕ, Bool, true, false, List, [], ◌∷◌, ◌++◌, Result, Ok, Err, ap}
+use Rattle.std.proofs.Common.{◌≡◌, ℕ, Bool, true, false, List, [], ◌∷◌, Result, Ok, Err, ap}
 use Rattle.std.proofs.lemmas.List.{append-nil}
 use Rattle.std.specs.Prelude.{⊤}
 use Rattle.doc_value.specs.declared.schema.Schema.{Schema}
@@ -15,7 +15,7 @@ use Rattle.split_merge.specs.Faults.{IsWant}
 use Rattle.split_merge.specs.Keeping.{ViewsSplit}
 use Rattle.split_merge.specs.Kept.{Keeps, KeepsAll}
 use Rattle.split_merge.specs.Merging.{fault_of}
-use Rattle.split_merge.specs.Reading.{MayFind, behind, documents_of, read_from, unless}
+use Rattle.split_merge.specs.Reading.{MayFind, alone, behind, documents_of, read_from, unless}
 use Rattle.split_merge.proofs.PlacedLemmas.{documents_are}
 use Rattle.split_merge.proofs.ReadLemmas.{read_fault}
 
@@ -29,23 +29,10 @@ none_read true before read e = ap (λ (l : List Placed). ok l) (append-nil befor
     ok l = Ok l
 none_read false before read e = absurd cc
 
--- it is read
-pub one_read : (dropped : Bool) (before : List Placed) (read : Result Placed SplitError) (d : Placed) → dropped ≡ false → read ≡ Ok d → behind (Ok before) (unless dropped read) ≡ Ok (before ++ d ∷ [])
-one_read true before read d e is = absurd cc
-one_read false before read d e is = ap (λ (r : Result Placed SplitError). behind (Ok before) (unless false r)) is
-
--- it does not read
-stops : (dropped : Bool) (before : List Placed) (read : Result Placed SplitError) (f : SplitError) → dropped ≡ false → read ≡ Err f → behind (Ok before) (unless dropped read) ≡ Err f
-stops true before read f e is = absurd cc
-stops false before read f e is = ap (λ (r : Result Placed SplitError). behind (Ok before) (unless false r)) is
-
-pub one_fault : (X : Type 0) (k : KeptDocuments) (s : Schema) (e : SplitError) (dropped : Bool) (before : List Placed) (read : Result Placed SplitError) → dropped ≡ false → MayGive {X = Placed} {Y = Placed} (λ d. d) (Err e) read
-    → Keeps {X = X} k s (Err e) (behind (Ok before) (unless dropped read))
-one_fault X k s (split.Memory a) dropped before read not gives = tt
-one_fault X k s split.BadMagic dropped before read not gives = stops dropped before read split.BadMagic not gives
-one_fault X k s (split.Truncated at) dropped before read not gives = stops dropped before read (split.Truncated at) not gives
-one_fault X k s (split.BadSection number) dropped before read not gives = stops dropped before read (split.BadSection number) not gives
-one_fault X k s (split.BadVersion version) dropped before read not gives = stops dropped before read (split.BadVersion version) not gives
+-- it is not
+pub unless_not : {X : Type 0} (k : KeptDocuments) (s : Schema) (r : Result X SplitError) (dropped : Bool) (before : List Placed) (read : Result Placed SplitError) → dropped ≡ false → Keeps k s r (behind (Ok before) (alone read)) → Keeps k s r (behind (Ok before) (unless dropped read))
+unless_not k s r true before read e keeps = absurd cc
+unless_not k s r false before read e keeps = keeps
 
 -- ---- faults
 

@@ -1,5 +1,5 @@
 -- Places that rise, and documents that are kept one after the other.
-use Rattle.std.proofs.Common.{◌≡◌, ℕ, zero, suc, ◌+◌, ◌<◌, ◌≤◌, Bool, true, false, List, [], ◌∷◌, ◌++◌, length, drop, Option, Some, Err, refl, sym, ap, subst, ◌∙◌, arith, append_assoc, eq-eqb}
+use Rattle.std.proofs.Common.{◌≡◌, ℕ, zero, suc, ◌+◌, ◌<◌, ◌≤◌, Bool, true, false, List, [], ◌∷◌, ◌++◌, length, drop, Option, Some, refl, sym, ap, subst, ◌∙◌, arith}
 use Rattle.std.specs.Prelude.{slice_get, if◌then◌else◌}
 use Rattle.std.specs.List.{AllByRecursion}
 use Rattle.std.proofs.lemmas.Bool.{ne_eqb}
@@ -11,7 +11,7 @@ use Rattle.split_bundle.specs.declared.split_error.SplitError.TheVariants as spl
 use Rattle.split_merge.specs.Faults.{IsWant}
 use Rattle.split_merge.specs.declared.merge_error.MergeError.{MergeError}
 use Rattle.split_merge.specs.declared.merge_error.MergeError.TheVariants.{Memory, Split, Build}
-use Rattle.split_merge.specs.Merging.{Blames, HasCause, HasFault, IsFaulty, IsMemory, ReadsAll, fault_of}
+use Rattle.split_merge.specs.Merging.{Blames, HasCause, HasFault, IsFaulty, IsMemory, fault_of}
 use Rattle.split_merge.specs.Keeping.{is_named, kept_from, RiseFrom, ViewsSplit, AreViewsOf}
 
 -- ---- places
@@ -23,29 +23,13 @@ named_ahead least place (p ∷ ps) rise lt =
     let apart : p ≡ place → ⊥ = λ e. absurd (omega (arith, e, rise.0)) in
     rw (ne_eqb p place apart) (named_ahead (suc p) place ps rise.1 (omega (arith, rise.0)))
 
-pub rise_weaker : (a b : ℕ) (ps : List ℕ) → a ≤ b → RiseFrom b ps → RiseFrom a ps
-rise_weaker a b [] le rise = tt
-rise_weaker a b (p ∷ ps) le rise = (omega (arith, rise.0), rise.1)
-
 -- the first of some places is that of the next document
 module _ (place first : ℕ) (places behind : List ℕ) (is : places ≡ first ∷ behind) (rise : RiseFrom place places) where
   here : RiseFrom place (first ∷ behind)
   here = subst (RiseFrom place) is rise
 
-  pub first_named : first ≡ place → true ≡ is_named place places
-  first_named e = rw (is, eq-eqb first place e) refl
-
-  pub first_rise : first ≡ place → RiseFrom (place + 1) behind
-  first_rise e = let next : suc first ≡ place + 1 = omega (arith, e) in subst (λ (n : ℕ). RiseFrom n behind) next here.1
-
-  pub first_same : first ≡ place → (m : ℕ) → place < m → is_named m behind ≡ is_named m places
-  first_same e m lt = let apart : first ≡ m → ⊥ = λ same. absurd (omega (arith, e, same)) in rw (is, ne_eqb first m apart) refl
-
   pub other_named : (first ≡ place → ⊥) → false ≡ is_named place places
   other_named apart = rw (is, ne_eqb first place apart) (sym (named_ahead (suc first) place behind here.1 (omega (arith, here.0))))
-
-  pub other_rise : (first ≡ place → ⊥) → RiseFrom (place + 1) places
-  other_rise apart = subst (RiseFrom (place + 1)) (sym is) (omega (arith, here.0, apart), here.1)
 
 -- ---- documents
 
@@ -67,27 +51,6 @@ kept_append place dropped (x ∷ xs) ys =
         ≡ (if b then kept_from (suc place) dropped xs else x ∷ kept_from (suc place) dropped xs) ++ kept_from (place + length (x ∷ xs)) dropped ys
     by true rest = rest
     by false rest = ap (λ (l : List Placed). x ∷ l) rest
-
--- a document more was taken, or dropped
-pub kept_step : (place : ℕ) (rest behind : List ℕ) (named : Bool) (before now whole ds : List Placed) (d : Placed) → named ≡ is_named place rest → ((m : ℕ) → place < m → is_named m behind ≡ is_named m rest)
-    → now ≡ before ++ (if named then [] else d ∷ []) → before ++ kept_from place rest (d ∷ ds) ≡ whole → now ++ kept_from (place + 1) behind ds ≡ whole
-kept_step place rest behind named before now whole ds d is same now_is so_far =
-    let next : place + 1 ≡ suc place = omega arith in
-    let later : kept_from (place + 1) behind ds ≡ kept_from (suc place) rest ds = ap (λ (n : ℕ). kept_from n behind ds) next ∙ kept_same (suc place) behind rest ds (λ m le. same m (omega arith)) in
-    ap (λ (l : List Placed). l ++ kept_from (place + 1) behind ds) now_is ∙ ap (λ (l : List Placed). (before ++ (if named then [] else d ∷ [])) ++ l) later
-    ∙ by named (ap (λ (b : Bool). before ++ (if b then kept_from (suc place) rest ds else d ∷ kept_from (suc place) rest ds)) is ∙ so_far)
-  where
-    by : (b : Bool) → before ++ (if b then kept_from (suc place) rest ds else d ∷ kept_from (suc place) rest ds) ≡ whole → (before ++ (if b then [] else d ∷ [])) ++ kept_from (suc place) rest ds ≡ whole
-    by true e = append_assoc before [] (kept_from (suc place) rest ds) ∙ e
-    by false e = append_assoc before (d ∷ []) (kept_from (suc place) rest ds) ∙ e
-
--- the documents of a split more were taken
-pub view_step : (place after : ℕ) (rest behind : List ℕ) (before now whole ds more : List Placed) → after ≡ place + length ds → ((m : ℕ) → after < m + 1 → is_named m behind ≡ is_named m rest)
-    → now ≡ before ++ kept_from place rest ds → before ++ kept_from place rest (ds ++ more) ≡ whole → now ++ kept_from after behind more ≡ whole
-view_step place after rest behind before now whole ds more after_is same now_is so_far =
-    let later : kept_from after behind more ≡ kept_from (place + length ds) rest more = kept_same after behind rest more (λ m le. same m (omega arith)) ∙ ap (λ (n : ℕ). kept_from n rest more) after_is in
-    ap (λ (l : List Placed). l ++ kept_from after behind more) now_is ∙ ap (λ (l : List Placed). (before ++ kept_from place rest ds) ++ l) later
-    ∙ append_assoc before (kept_from place rest ds) (kept_from (place + length ds) rest more) ∙ ap (λ (l : List Placed). before ++ l) (sym (kept_append place rest ds more)) ∙ so_far
 
 -- the element at a place, and those behind it
 pub drop_at : {X : Type 0} (xs : List X) (i : ℕ) → i < length xs → (x : X) × (slice_get xs i ≡ Some x) × (drop i xs ≡ x ∷ drop (i + 1) xs)
@@ -138,13 +101,6 @@ all_push P (y ∷ ys) x all here = (all.0, all_push P ys x all.1 here)
 
 -- ---- faults
 
-pub fault_reads : (documents : List Placed) (number : ℕ) (e : SplitError) → IsWant e → ReadsAll documents (Err (fault_of number e))
-fault_reads documents number (split.Memory a) want = tt
-fault_reads documents number split.BadMagic want = want
-fault_reads documents number (split.Truncated at) want = want
-fault_reads documents number (split.BadSection section) want = want
-fault_reads documents number (split.BadVersion version) want = want
-
 -- a fault of a view that is of a split of documents is want of memory
 pub fault_cause : (s : Schema) (views : List SplitView) (number : ℕ) (v : SplitView) (e : SplitError) → slice_get views number ≡ Some v → ((documents : List Placed) → ViewsSplit s v documents → IsWant e) → HasCause s views (fault_of number e)
 fault_cause s views number v (split.Memory a) is only = tt
@@ -159,11 +115,6 @@ fault_blames s views number v split.BadMagic is only = record { view = v; is_the
 fault_blames s views number v (split.Truncated at) is only = record { view = v; is_there = is; is_none = only }
 fault_blames s views number v (split.BadSection section) is only = record { view = v; is_there = is; is_none = only }
 fault_blames s views number v (split.BadVersion version) is only = record { view = v; is_there = is; is_none = only }
-
-pub blames_cause : (s : Schema) (views : List SplitView) (e : MergeError) → Blames s views e → HasCause s views e
-blames_cause s views (Memory a) blames = tt
-blames_cause s views (Split number e) blames = blames
-blames_cause s views (Build e) blames = tt
 
 -- of views of splits it is want of memory
 pub blames_memory : (s : Schema) (views : List SplitView) (lists : List (List Placed)) (e : MergeError) → AreViewsOf s views lists → Blames s views e → IsMemory e

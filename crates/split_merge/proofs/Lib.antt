@@ -14,7 +14,10 @@ pub mod UpToLemmas
 pub mod StandLemmas
 pub mod GainLemmas
 pub mod ScanLemmas
+pub mod CellGains
 pub mod PlacedLemmas
+pub mod InPlaceLemmas
+pub mod PlaceListLemmas
 pub mod KeepLemmas
 pub mod FiledLemmas
 pub mod MergeLemmas

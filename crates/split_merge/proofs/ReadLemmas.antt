@@ -34,15 +34,6 @@ behind_end {E} list whole e = sym e ∙ ap (λ (l : List Placed). ok l) (append-
     ok : List Placed → Result (List Placed) E
     ok l = Ok l
 
--- the faults of one reading are those of another
-pub gives_more : {X Y : Type 0} (view : X → List Placed) (other : Y → List Placed) (e : SplitError) (read whole : Result (List Placed) SplitError)
-    → ((f : SplitError) → read ≡ Err f → whole ≡ Err f) → MayGive view (Err e) read → MayGive other (Err e) whole
-gives_more view other (split.Memory a) read whole more gives = tt
-gives_more view other split.BadMagic read whole more gives = more split.BadMagic gives
-gives_more view other (split.Truncated at) read whole more gives = more (split.Truncated at) gives
-gives_more view other (split.BadSection number) read whole more gives = more (split.BadSection number) gives
-gives_more view other (split.BadVersion number) read whole more gives = more (split.BadVersion number) gives
-
 -- ---- the documents of a view
 
 module _ (s : Schema) (v : SplitView) where

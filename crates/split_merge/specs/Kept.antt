@@ -1,5 +1,5 @@
 -- The documents that are kept, as far as they are read.
-use Rattle.std.specs.Prelude.{◌≡◌, List, length, min, Result, Ok, Err, ⊤}
+use Rattle.std.specs.Prelude.{◌≡◌, List, min, Result, Ok, Err, ⊤}
 use Rattle.std.specs.List.{AllByRecursion}
 use Rattle.doc_value.specs.declared.schema.Schema.{Schema}
 use Rattle.doc_value.specs.Documents.{IsOfSchema}
@@ -15,25 +15,19 @@ use Rattle.split_build.specs.declared.documents.DocumentLog.{DocumentLog}
 use Rattle.split_build.specs.declared.file.FileParts.{FileParts}
 use Rattle.split_build.specs.HeldColumns.{HasColumns}
 use Rattle.split_build.specs.HeldDocuments.{HasDocuments}
-use Rattle.split_build.specs.HeldTags.{HasTags}
 use Rattle.split_build.specs.Limits.{most}
-use Rattle.split_build.specs.Tags.{tag_numbers}
-use Rattle.split_build.specs.Times.{AreTimes, seconds_in}
 use Rattle.split_merge.specs.declared.kept.KeptDocuments.{KeptDocuments}
+use Rattle.split_merge.specs.Facts.{HasFacts}
 use Rattle.split_merge.specs.declared.merge_error.MergeError.{MergeError}
 use Rattle.split_merge.specs.declared.merge_error.MergeError.TheVariants.{Memory, Split, Build}
 
 -- these documents were taken, in this order
 pub record HasKept (k : KeptDocuments) (s : Schema) (documents : List Placed) : Type 0 where
-  pub timestamp : k.timestamp ≡ s.timestamp
   pub of_schema : AllByRecursion (λ d. IsOfSchema s d.doc) documents
   pub held : AllByRecursion IsHeld documents
-  pub count : k.count ≡ length documents
   pub weight : k.weight ≡ min (total_weight documents) most
   pub bodies : HasDocuments k.documents documents
-  pub columns : HasColumns documents (fast_fields s) k.columns.items
-  pub tags : HasTags documents (tag_numbers 0 s.fields) k.tags.items
-  pub times : AreTimes (seconds_in s.timestamp documents) k.times
+  pub facts : HasFacts k.facts s documents
 
 -- what is read was taken, or its fault was met, or memory ran out
 abbrev pub Keeps : {X : Type 0} → KeptDocuments → Schema → Result X SplitError → Result (List Placed) SplitError → Type 0

@@ -10,3 +10,4 @@ pub mod Lent
 pub mod Facts
 pub mod Scanning
 pub mod Kept
+pub mod Places

@@ -33,13 +33,6 @@ IsMemory (Memory a) = ⊤
 IsMemory (Split number e) = ⊥
 IsMemory (Build e) = ⊥
 
--- these documents were read, or memory was wanting
-abbrev pub ReadsAll : List Placed → Result (List Placed) MergeError → Type 0
-ReadsAll documents (Ok found) = found ≡ documents
-ReadsAll documents (Err (Memory a)) = ⊤
-ReadsAll documents (Err (Split view e)) = ⊥
-ReadsAll documents (Err (Build e)) = ⊥
-
 -- some view is of no split of documents, and its bytes have a fault
 pub record IsFaulty (s : Schema) (views : List SplitView) (number : ℕ) : Type 0 where
   pub view : SplitView

@@ -1,23 +1,22 @@
-//! What a row keeps of documents beside their bytes, as far as they are read: the terms of tag fields, and the times.
+//! What a row keeps of documents beside their bytes, as far as they are read: the terms of tag fields, and the times; and the
+//! values of fast fields.
 
-ghost use Rattle.std.specs.Prelude.{◌≡◌, ◌≤◌, ◌∷◌, ◌++◌, [], ℕ, ℤ, List, length, MatchOption, IfOk, OnOk};
-ghost use Rattle.std.specs.List.{insert};
+ghost use Rattle.std.specs.Prelude.{◌≡◌, ◌+◌, ◌∷◌, ◌++◌, [], ℕ, ℤ, List, IfOk, OnOk};
 ghost use Rattle.doc_value.specs.declared.schema.Schema.{Schema};
 ghost use Rattle.doc_value.specs.Documents.{IsSchema};
 ghost use Rattle.doc_value.specs.Terms.{term_bytes};
 ghost use Rattle.split_bundle.specs.declared.placed.Placed.{Placed};
-ghost use Rattle.split_build.specs.HeldDocuments.{with_name};
 ghost use Rattle.split_build.specs.HeldTags.{HasTags, HasTerms};
-ghost use Rattle.split_build.specs.Tags.{AreTags, AreTagsOf, tag_numbers, term_of};
+ghost use Rattle.split_build.specs.Tags.{term_of};
 ghost use Rattle.split_build.specs.Times.{AreEnds, AreTimes, second_of, seconds_in};
 ghost use Rattle.split_merge.specs.Lent.{Gains, value_of};
 
+use crate::cells::add_column;
 use crate::lent::LentValue;
-use doc_value::{Bytes, FieldTags, Schema, TagFacts, Tags, Terms, Value, term_bytes};
-use split_build::TagLog;
+use doc_value::{Schema, Value, term_bytes};
+use split_build::{ColumnLog, TagLog, column_logs, tag_logs};
 use split_states::Times;
 use std::alloc::{AllocError, Global};
-use std::cmp::Ordering;
 
 // So many distinct terms are listed of a field.
 const MAX_TAGS: usize = 100;
@@ -25,38 +24,13 @@ const MAX_TAGS: usize = 100;
 // A longer text has no term.
 const MAX_TOKEN: usize = 255;
 
-// Where a term belongs among rising ones, or none where it stands there.
-fn place_for(terms: &[Bytes], term: &[u8]) -> Option<usize>
-    ensures { MatchOption result (with_name term.now terms.now ≡ terms.now)
-        (λ place. (place ≤ length terms.now) × (with_name term.now terms.now ≡ insert terms.now place term.now)) }
-{
-    for (i, other) in terms.iter().enumerate() {
-        match term.cmp(other.as_slice()) {
-            Ordering::Less => return Some(i),
-            Ordering::Equal => return None,
-            Ordering::Greater => {}
-        }
-    }
-    Some(terms.len())
-}
-
-fn add_term(alloc: Global, log: &mut TagLog, term: &[u8]) -> Result<(), AllocError>
-    ensures number { log.new.number ≡ log.old.number }
-    ensures terms { (terms : List (List ℕ)) → HasTerms log.old.terms.items terms → OnOk result (HasTerms log.new.terms.items (terms ++ term.now ∷ [])) }
-{
-    if let Some(place) = place_for(log.terms.as_slice(), term) {
-        log.terms.insert(place, Bytes::from_slice(alloc, term)?)?;
-    }
-    Ok(())
-}
-
 // Adds the term of a value that is no text.
 fn add_plain(alloc: Global, log: &mut TagLog, value: &Value) -> Result<(), AllocError>
     ensures number { log.new.number ≡ log.old.number }
     ensures terms { (terms : List (List ℕ)) → HasTerms log.old.terms.items terms → OnOk result (HasTerms log.new.terms.items (terms ++ term_bytes value.now ∷ [])) }
 {
     let term = term_bytes(alloc, value)?;
-    add_term(alloc, log, term.as_slice())
+    log.add_term(alloc, term.as_slice())
 }
 
 // Adds the term of a value, if it has one.
@@ -72,7 +46,7 @@ fn add_value(alloc: Global, log: &mut TagLog, value: LentValue<'_>) -> Result<()
             if text.len() > MAX_TOKEN {
                 return Ok(());
             }
-            add_term(alloc, log, text.as_bytes())
+            log.add_term(alloc, text.as_bytes())
         }
         LentValue::I64(number) => add_plain(alloc, log, &Value::I64(number)),
         LentValue::U64(number) => add_plain(alloc, log, &Value::U64(number)),
@@ -98,56 +72,6 @@ fn add_tag(
         }
     }
     Ok(())
-}
-
-// A log for each tag field.
-fn tag_logs(alloc: Global, schema: &Schema) -> Result<Vec<TagLog>, AllocError>
-    requires { IsSchema schema.now }
-    ensures { IfOk result (λ logs. HasTags [] (tag_numbers 0 schema.now.fields) logs.items) }
-{
-    let mut logs = Vec::new(alloc);
-    let mut number = 0;
-    let mut rest = schema.fields.as_slice();
-    while let Some((field, behind)) = rest.split_first() {
-        if field.tag {
-            logs.push(TagLog {
-                number,
-                terms: Vec::new(alloc),
-            })?;
-        }
-        number += 1;
-        rest = behind;
-    }
-    Ok(logs)
-}
-
-// What is known of a tag field.
-fn tags_of(log: TagLog) -> FieldTags
-    ensures number { result.number ≡ log.number }
-    ensures tags { (terms : List (List ℕ)) → HasTerms log.terms.items terms → AreTags terms result.tags }
-{
-    let TagLog { number, terms } = log;
-    if terms.len() > MAX_TAGS {
-        return FieldTags {
-            number,
-            tags: Tags::Many,
-        };
-    }
-    FieldTags {
-        number,
-        tags: Tags::Listed(Terms::from_vec(terms)),
-    }
-}
-
-/// What is known of the tag fields.
-pub(crate) fn tag_facts(alloc: Global, logs: Vec<TagLog>) -> Result<TagFacts, AllocError>
-    ensures { (numbers : List ℕ) (documents : List Placed) → HasTags documents numbers logs.items → IfOk result (AreTagsOf documents numbers) }
-{
-    let mut facts = TagFacts::vacant(alloc);
-    for log in logs.into_iter() {
-        facts.push(tags_of(log))?;
-    }
-    Ok(facts)
 }
 
 // The ends of the seconds so far and of one more.
@@ -198,12 +122,25 @@ fn times_with(
     }
 }
 
-/// The terms of tag fields and the times of documents, as far as these are read.
+/// How many documents there are, as far as they are read, the terms of their tag fields, their times, and the values of their
+/// fast fields.
 #[derive(Drop)]
 pub(crate) struct FieldFacts {
+    pub(crate) count: u32,
     pub(crate) timestamp: Option<usize>,
     pub(crate) tags: Vec<TagLog>,
     pub(crate) times: Option<Times>,
+    pub(crate) columns: Vec<ColumnLog>,
+}
+
+// One more. There is no room for 2^32 documents.
+fn one_more(count: u32) -> Result<u32, AllocError>
+    ensures { IfOk result (λ n. n ≡ count + 1) }
+{
+    match count.checked_add(1) {
+        Some(more) => Ok(more),
+        None => Err(AllocError),
+    }
 }
 
 impl FieldFacts {
@@ -215,10 +152,20 @@ impl FieldFacts {
         ensures { IfOk result (λ f. HasFacts f schema.now []) }
     {
         Ok(FieldFacts {
+            count: 0,
             timestamp: schema.timestamp,
             tags: tag_logs(alloc, schema)?,
             times: None,
+            columns: column_logs(alloc, schema)?,
         })
+    }
+
+    /// Begins a document behind the others, so far without values.
+    pub(crate) fn begin(&mut self) -> Result<(), AllocError>
+        ensures { (s : Schema) (documents : List Placed) (d : Placed) → d.doc ≡ [] → HasFacts self.old s documents → OnOk result (HasFacts self.new s (documents ++ d ∷ [])) }
+    {
+        self.count = one_more(self.count)?;
+        Ok(())
     }
 
     /// Adds a value of a field of the last document. After an `Err` nothing is said of what is held.
@@ -231,7 +178,9 @@ impl FieldFacts {
         ensures { (s : Schema) (documents : List Placed) (d e : Placed) → Gains number (value_of value.entry) d.doc e.doc → HasFacts self.old s (documents ++ d ∷ [])
             → OnOk result (HasFacts self.new s (documents ++ e ∷ [])) }
     {
+        let last = self.count.saturating_sub(1);
         add_tag(alloc, &mut self.tags, number, value)?;
+        add_column(alloc, &mut self.columns, last, number, value)?;
         self.times = times_with(self.timestamp, self.times, number, value);
         Ok(())
     }

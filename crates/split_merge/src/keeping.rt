@@ -1,15 +1,17 @@
 //! The documents that are kept of splits one behind another.
 
-ghost use Rattle.std.specs.Prelude.{◌≡◌, ◌+◌, ◌<◌, ◌^◌, ℕ, List, Ok, IfOk, IfErr};
+ghost use Rattle.std.specs.Prelude.{◌≡◌, ◌+◌, ◌<◌, ◌^◌, ℕ, List, Ok, IfOk, IfErr, OnOk};
 ghost use Rattle.doc_value.specs.Documents.{IsSchema};
 ghost use Rattle.split_bundle.specs.declared.placed.Placed.{Placed};
 ghost use Rattle.split_merge.specs.Keeping.{is_named, RiseFrom};
 ghost use Rattle.split_merge.specs.Kept.{HasKept, Keeps, KeepsAll};
 ghost use Rattle.split_merge.specs.Merging.{HasCause, fault_of};
+ghost use Rattle.split_merge.specs.Places.{ArePlaces};
 ghost use Rattle.split_merge.specs.Reading.{behind, document_of, documents_of, read_kept, unless};
 
 use crate::MergeError;
 use crate::kept::KeptDocuments;
+use crate::places::KnownPlace;
 use doc_value::Schema;
 use split_bundle::{SplitError, SplitView};
 use std::alloc::Global;
@@ -40,21 +42,18 @@ fn take_next(
     view: &SplitView<'_>,
     doc: u32,
     dropped: bool,
+    known: &mut Vec<KnownPlace>,
     documents: &mut KeptDocuments,
 ) -> Result<(), SplitError>
     requires { doc < view.now.layout.docs }
-    ensures { (before : List Placed) → HasKept documents.old schema.now before → Keeps documents.new schema.now result (behind (Ok before) (unless dropped (document_of schema.now view.now doc))) }
+    ensures places { (before : List Placed) → HasKept documents.old schema.now before → ArePlaces view.now known.old.items → OnOk result (ArePlaces view.now known.new.items) }
+    ensures exact { (before : List Placed) → HasKept documents.old schema.now before → ArePlaces view.now known.old.items
+        → Keeps documents.new schema.now result (behind (Ok before) (unless dropped (document_of schema.now view.now doc))) }
 {
     if dropped {
         return Ok(());
     }
-    match view.placed(alloc, schema, doc) {
-        Ok(placed) => {
-            documents.add(alloc, &placed)?;
-            Ok(())
-        }
-        Err(fault) => Err(fault),
-    }
+    documents.take(alloc, schema, view, known, doc)
 }
 
 // Takes the documents of a split, of which the first has a place, without those whose places are named. It gives the
@@ -74,11 +73,12 @@ fn take_view<'a>(
     ensures exact { (before : List Placed) → HasKept documents.old schema.now before
         → Keeps documents.new schema.now result (behind (Ok before) (documents_of schema.now places.now view.now first 0 view.now.layout.docs)) }
 {
+    let mut known = Vec::new(alloc);
     let mut rest = places;
     let mut place = first;
     for doc in 0..view.doc_count() {
         let (dropped, behind) = passed(rest, place);
-        match take_next(alloc, schema, view, doc, dropped, documents) {
+        match take_next(alloc, schema, view, doc, dropped, &mut known, documents) {
             Ok(()) => rest = behind,
             Err(fault) => return Err(fault),
         }

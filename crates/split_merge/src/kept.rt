@@ -1,61 +1,67 @@
-//! The documents that are kept, gathered as they are read: in bytes, with the values of their fast fields and their facts.
+//! The documents that are kept, read in place: in bytes, with the values of their fast fields and their facts.
 
-ghost use Rattle.std.specs.Prelude.{◌≡◌, ◌+◌, ◌∷◌, ◌++◌, [], List, IfOk, OnOk};
-ghost use Rattle.doc_value.specs.declared.schema.Schema.{Schema};
-ghost use Rattle.doc_value.specs.Documents.{IsOfSchema, IsSchema};
+ghost use Rattle.std.specs.Prelude.{◌≡◌, ◌<◌, [], List, Ok, IfOk, OnOk};
+ghost use Rattle.doc_value.specs.Documents.{IsSchema};
 ghost use Rattle.sha2.specs.Sha256.{sha256};
 ghost use Rattle.split_bundle.specs.declared.placed.Placed.{Placed};
+ghost use Rattle.split_bundle.specs.DocReading.{doc_part, partition_in};
+ghost use Rattle.split_bundle.specs.Reading.{MayGive};
+ghost use Rattle.split_bundle.specs.SplitViews.{pieces_of};
 ghost use Rattle.split_build.specs.Builders.{IsBuilt};
 ghost use Rattle.split_build.specs.Limits.{AreWithin};
-ghost use Rattle.split_build.specs.Times.{AreTimes, seconds_in};
 ghost use Rattle.split_build.specs.WrittenTerms.{AreTermParts};
 ghost use Rattle.split_merge.specs.Kept.{AreSectionsOf, AreToWrite};
 ghost use Rattle.split_merge.specs.Merging.{HoldsDocuments};
+ghost use Rattle.split_merge.specs.Places.{ArePlaces, HasPlace};
+ghost use Rattle.split_merge.specs.Reading.{alone, behind, document_of};
 
+use crate::facts::FieldFacts;
+use crate::places::{KnownPlace, known_at};
 use doc_value::{Bytes, Schema};
 use sha2::{Digest, Sha256};
+use source_checkpoint::Partition;
 use split_build::{
-    BuiltSplit, ColumnLog, DocumentLog, FileParts, TagLog, TermParts, add_columns, add_tags,
-    column_logs, put_body, tag_facts, tag_logs, values_in, widened_by, write_columns,
+    BuiltSplit, ColumnLog, DocumentLog, FileParts, TermParts, tag_facts, write_columns,
 };
-use split_bundle::Placed;
-use split_states::{RowFacts, Times};
+use split_bundle::{SplitError, SplitView};
+use split_states::RowFacts;
 use std::alloc::{AllocError, Global};
 
 // What a document weighs beside its bytes: one for the place of its partition, and 256.
 const WEIGHT_BESIDE: u64 = 257;
 
-/// The documents that are kept so far: how many, what they weigh, their bytes, the values of their fast fields, the terms of
-/// their tag fields, and their times.
+/// The documents that are kept so far: what they weigh, their bytes, their facts, and the values of their fast fields.
 #[derive(Drop)]
 pub(crate) struct KeptDocuments {
-    pub(crate) timestamp: Option<usize>,
-    pub(crate) count: u32,
     pub(crate) weight: u64,
     pub(crate) documents: DocumentLog,
-    pub(crate) columns: Vec<ColumnLog>,
-    pub(crate) tags: Vec<TagLog>,
-    pub(crate) times: Option<Times>,
-    pub(crate) body: Vec<u8>,
+    pub(crate) facts: FieldFacts,
 }
 
-// One more. There is no room for 2^32 documents.
-fn one_more(count: u32) -> Result<u32, AllocError>
-    ensures { IfOk result (λ n. n ≡ count + 1) }
+// The partition of a document of a view, which stands at a place among those of its footer. One that is not known is read,
+// and then it is.
+fn partition_at(
+    alloc: Global,
+    schema: &Schema,
+    view: &SplitView<'_>,
+    known: &mut Vec<KnownPlace>,
+    place: u64,
+    doc: u32,
+) -> Result<Partition, SplitError>
+    requires { doc < view.now.layout.docs }
+    ensures places { ArePlaces view.now known.old.items → HasPlace schema.now view.now doc place → OnOk result (ArePlaces view.now known.new.items) }
+    ensures exact { ArePlaces view.now known.old.items → HasPlace schema.now view.now doc place → MayGive (λ p. p) result (partition_in view.now.footer.now view.now.layout.partitions place) }
 {
-    match count.checked_add(1) {
-        Some(more) => Ok(more),
-        None => Err(AllocError),
+    if let Some(partition) = known_at(known, place) {
+        return Ok(partition);
     }
-}
-
-// The times with those of a document.
-fn times_with(timestamp: Option<usize>, times: Option<Times>, placed: &Placed) -> Option<Times>
-    ensures { (documents : List Placed) → AreTimes (seconds_in timestamp documents) times → AreTimes (seconds_in timestamp (documents ++ placed.now ∷ [])) result }
-{
-    match timestamp {
-        None => times,
-        Some(number) => widened_by(times, values_in(placed.doc.as_slice(), number)),
+    match view.placed(alloc, schema, doc) {
+        Ok(placed) => {
+            let partition = placed.partition;
+            known.push(KnownPlace { place, partition })?;
+            Ok(partition)
+        }
+        Err(fault) => Err(fault),
     }
 }
 
@@ -95,7 +101,7 @@ fn file_parts(
 }
 
 impl KeptDocuments {
-    ghost use Rattle.split_merge.specs.Kept.{HasKept};
+    ghost use Rattle.split_merge.specs.Kept.{HasKept, Keeps};
 
     /// No documents.
     pub(crate) fn vacant(alloc: Global, schema: &Schema) -> Result<KeptDocuments, AllocError>
@@ -103,34 +109,62 @@ impl KeptDocuments {
         ensures { IfOk result (λ k. HasKept k schema.now []) }
     {
         Ok(KeptDocuments {
-            timestamp: schema.timestamp,
-            columns: column_logs(alloc, schema)?,
-            tags: tag_logs(alloc, schema)?,
-            documents: DocumentLog::vacant(alloc),
-            count: 0,
             weight: 0,
-            times: None,
-            body: Vec::new(alloc),
+            documents: DocumentLog::vacant(alloc),
+            facts: FieldFacts::vacant(alloc, schema)?,
         })
     }
 
-    /// Adds a document behind the others. After an `Err` nothing is said of what is held.
-    pub(crate) fn add(&mut self, alloc: Global, placed: &Placed) -> Result<(), AllocError>
-        ensures { (s : Schema) (documents : List Placed) → HasKept self.old s documents → IsOfSchema s placed.now.doc → OnOk result (HasKept self.new s (documents ++ placed.now ∷ [])) }
+    // Takes the document of a view with a number, which has these bytes. After an `Err` nothing is said of what is held.
+    fn take_bytes(
+        &mut self,
+        alloc: Global,
+        schema: &Schema,
+        view: &SplitView<'_>,
+        known: &mut Vec<KnownPlace>,
+        doc: u32,
+        bytes: &[u8],
+    ) -> Result<(), SplitError>
+        requires { doc < view.now.layout.docs }
+        ensures places { (before : List Placed) → HasKept self.old schema.now before → ArePlaces view.now known.old.items → doc_part view.now.layout (pieces_of view.now) doc ≡ Ok bytes.now → OnOk result (ArePlaces view.now known.new.items) }
+        ensures exact { (before : List Placed) → HasKept self.old schema.now before → ArePlaces view.now known.old.items → doc_part view.now.layout (pieces_of view.now) doc ≡ Ok bytes.now
+            → Keeps self.new schema.now result (behind (Ok before) (alone (document_of schema.now view.now doc))) }
     {
-        let document = self.count;
-        let count = one_more(document)?;
-        self.body.clear();
-        put_body(&mut self.body, placed)?;
-        add_columns(alloc, &mut self.columns, document, placed)?;
-        add_tags(alloc, &mut self.tags, placed)?;
-        self.times = times_with(self.timestamp, self.times, placed);
-        self.documents.add(&placed.partition, &self.body)?;
-        self.weight = self
-            .weight
-            .saturating_add(WEIGHT_BESIDE + self.body.len() as u64);
-        self.count = count;
-        Ok(())
+        match self.facts.take_document(alloc, &schema.fields, bytes) {
+            Ok((place, from)) => match partition_at(alloc, schema, view, known, place, doc) {
+                Ok(partition) => {
+                    let (_place, body) = bytes.split_at(from);
+                    self.documents.add(&partition, body)?;
+                    self.weight = self
+                        .weight
+                        .saturating_add(WEIGHT_BESIDE + body.len() as u64);
+                    Ok(())
+                }
+                Err(fault) => Err(fault),
+            },
+            Err(fault) => Err(fault),
+        }
+    }
+
+    /// Takes the document of a view with a number. The partitions that are known are those of this view. After an `Err` nothing
+    /// is said of what is held.
+    pub(crate) fn take(
+        &mut self,
+        alloc: Global,
+        schema: &Schema,
+        view: &SplitView<'_>,
+        known: &mut Vec<KnownPlace>,
+        doc: u32,
+    ) -> Result<(), SplitError>
+        requires { doc < view.now.layout.docs }
+        ensures places { (before : List Placed) → HasKept self.old schema.now before → ArePlaces view.now known.old.items → OnOk result (ArePlaces view.now known.new.items) }
+        ensures exact { (before : List Placed) → HasKept self.old schema.now before → ArePlaces view.now known.old.items
+            → Keeps self.new schema.now result (behind (Ok before) (alone (document_of schema.now view.now doc))) }
+    {
+        match view.doc_bytes(doc) {
+            Ok(bytes) => self.take_bytes(alloc, schema, view, known, doc, bytes),
+            Err(fault) => Err(fault),
+        }
     }
 
     /// The split of the documents with these terms, and its facts.
@@ -148,14 +182,17 @@ impl KeptDocuments {
         ensures built { (documents : List Placed) → HasKept self schema.now documents → AreWithin documents → AreTermParts schema.now documents terms → IfOk result (IsBuilt schema.now documents) }
     {
         let KeptDocuments {
-            count,
             weight,
             documents,
-            columns,
+            facts,
+        } = self;
+        let FieldFacts {
+            count,
             tags,
             times,
+            columns,
             ..
-        } = self;
+        } = facts;
         let parts = file_parts(alloc, schema, count, documents, columns, terms)?;
         let file = parts.write_file(alloc)?;
         let facts = RowFacts {

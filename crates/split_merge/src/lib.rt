@@ -1,6 +1,7 @@
 //! A split made of splits: their documents one behind another, without those that are dropped.
 #![tactic(auto)]
 
+mod cells;
 mod facts;
 mod keeping;
 mod kept;
@@ -11,6 +12,7 @@ mod lists;
 mod merge_error;
 mod merging;
 mod numbers;
+mod places;
 mod scanning;
 mod terms;
 

@@ -91,7 +91,7 @@ fn join_documents(
     ensures read { (ds : List Placed) → HasKept documents schema.now ds → MergesRead schema.now ds result }
     ensures cause { IfErr result (HasCause schema.now views.now) }
 {
-    match within_limits(documents.count, documents.weight) {
+    match within_limits(documents.facts.count, documents.weight) {
         Ok(()) => join_within(alloc, schema, views, dropped, documents),
         Err(refusal) => Err(refusal_of(refusal)),
     }

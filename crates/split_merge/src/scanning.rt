@@ -207,6 +207,7 @@ impl FieldFacts {
         ensures within { IfOk result (λ x. x.1 ≤ length bytes.now) }
         ensures exact { (s : Schema) (documents : List Placed) → HasFacts self.old s documents → Scans (HasStored self.new s documents bytes.now) result (document_at fields.now bytes.now) }
     {
+        self.begin()?;
         match take_doc_head(bytes) {
             Ok(head) => match self.take_fields(alloc, fields, head.count, bytes, head.from) {
                 Ok(end) => {

@@ -1,17 +1,10 @@
-use Rattle.std.proofs.Common.{◌++◌, ◌∷◌, []}
 use Rattle.std.specs.Prelude.{⊤}
-use Rattle.split_merge.proofs.KeepLemmas.{none_read, one_fault, one_read}
+use Rattle.split_merge.specs.Reading.{document_of}
+use Rattle.split_merge.proofs.KeepLemmas.{none_read, unless_not}
 use Rattle.split_merge.proofs.keeping.take_next.Goals as goal
 
-pub returns-then-dropped : goal.returns-then-dropped
-returns-then-dropped c = λ before h. (before, none_read c.args.dropped before _ c.if-dropped.true, h)
+pub returns-then-dropped-clause-exact : goal.returns-then-dropped-clause-exact
+returns-then-dropped-clause-exact c = λ before h known. (before, none_read c.args.dropped before _ c.if-dropped.true, h)
 
-pub returns-in-Err : goal.returns-in-Err
-returns-in-Err c = λ before h. one_fault ⊤ c.args.documents.now c.args.schema.now c.in-Err.fault c.args.dropped before _ c.if-dropped.false c.in-Err.ensures.exact
-
-pub returns-in_ok-add-in-Ok : goal.returns-in_ok-add-in-Ok
-returns-in_ok-add-in-Ok c = λ before h. (
-  before ++ c.in-Ok.placed ∷ [],
-  one_read c.args.dropped before _ c.in-Ok.placed c.if-dropped.false c.in-Ok.ensures.exact,
-  c.in_ok-add-in-Ok.ensures c.args.schema.now before h c.in-Ok.ensures.of_schema,
-)
+pub returns-clause-exact : goal.returns-clause-exact
+returns-clause-exact c = λ before h known. unless_not {X = ⊤} c.take.new.self c.args.schema.now c.take.result c.args.dropped before (document_of c.args.schema.now c.args.view.now c.args.doc) c.if-dropped.false (c.take.ensures.exact before h known)

@@ -1,4 +1,4 @@
-use Rattle.std.proofs.Common.{◌∙◌, List, ℕ, ap, refl, subst, sym, arith}
+use Rattle.std.proofs.Common.{◌∙◌, ◌<◌, ◌^◌, List, ℕ, ap, refl, subst, sym, length, arith}
 use Rattle.sha2.specs.Sha256.{sha256}
 use Rattle.split_build.specs.declared.term_parts.TermParts.{TermParts}
 use Rattle.split_build.specs.Tags.{tag_numbers}
@@ -13,7 +13,7 @@ pub returns-clause-holds : goal.returns-clause-holds
 returns-clause-holds c = λ ds h within.
     let file = c.in_ok-file.file.items in
     let facts = are_facts c.args.schema.now ds c.args.self c.requires.schema h within _ file c.from_vec.ensures c.from.ensures refl refl (omega (arith, c.len.ensures, c.in_ok-file.file.ok.0))
-    (c.digest_of.ensures ∙ ap (λ (l : List ℕ). sha256 l) c.deref.ensures.value) refl (c.in_ok-tag_facts.ensures (tag_numbers 0 c.args.schema.now.fields) ds h.tags) in
+    (c.digest_of.ensures ∙ ap (λ (l : List ℕ). sha256 l) c.deref.ensures.value) refl (c.in_ok-tag_facts.ensures (tag_numbers 0 c.args.schema.now.fields) ds h.facts.tags) in
     let n : ℕ = c.in_ok-parts.parts.terms.count in
     holds_documents c.args.schema.now ds c.args.self c.requires.schema h within _ file c.in_ok-parts.parts (so_many n) c.from_vec.ensures facts c.in_ok-parts.ensures.docs
     (c.in_ok-parts.ensures.sections ds (to_write c.args.schema.now ds c.args.self c.requires.schema h within)) (c.in_ok-file.ensures (so_many n) (sym (length-so_many n)))
@@ -21,8 +21,9 @@ returns-clause-holds c = λ ds h within.
 pub returns-clause-built : goal.returns-clause-built
 returns-clause-built c = λ ds h within terms.
     let file = c.in_ok-file.file.items in
+    let small : length c.in_ok-file.file.items < 2 ^ 64 = omega (arith, c.in_ok-file.file.ok.0, c.in_ok-file.file.small) in
     let facts = are_facts c.args.schema.now ds c.args.self c.requires.schema h within _ file c.from_vec.ensures c.from.ensures refl refl (omega (arith, c.len.ensures, c.in_ok-file.file.ok.0))
-    (c.digest_of.ensures ∙ ap (λ (l : List ℕ). sha256 l) c.deref.ensures.value) refl (c.in_ok-tag_facts.ensures (tag_numbers 0 c.args.schema.now.fields) ds h.tags) in
+    (c.digest_of.ensures ∙ ap (λ (l : List ℕ). sha256 l) c.deref.ensures.value) refl (c.in_ok-tag_facts.ensures (tag_numbers 0 c.args.schema.now.fields) ds h.facts.tags) in
     let own : AreTermParts c.args.schema.now ds c.in_ok-parts.parts.terms = subst (λ (t : TermParts). AreTermParts c.args.schema.now ds t) (sym c.in_ok-parts.ensures.terms) terms in
     is_built c.args.schema.now ds c.args.self c.requires.schema h within _ file c.in_ok-parts.parts own c.from_vec.ensures facts c.in_ok-parts.ensures.docs
-    (c.in_ok-parts.ensures.sections ds (to_write c.args.schema.now ds c.args.self c.requires.schema h within)) (c.in_ok-file.ensures own.keys own.count) (omega (arith, c.in_ok-file.file.ok.0, c.in_ok-file.file.small))
+    (c.in_ok-parts.ensures.sections ds (to_write c.args.schema.now ds c.args.self c.requires.schema h within)) (c.in_ok-file.ensures own.keys own.count) small
