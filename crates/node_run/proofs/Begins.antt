@@ -4,7 +4,7 @@ use Rattle.std.specs.Prelude.{◌==◌, decimal, codes}
 use Rattle.byte_fields.specs.ClientName.{IsClientName}
 use Rattle.indexing_run.specs.Outcomes.{words}
 use Rattle.node_run.specs.Lines.{Spells, AreNames}
-use Rattle.node_run.specs.Node.{Line, At, Assign, StepIndexer, RestartIndexer, RestartClient, StepCollector, RestartCollector, RestartNode, Open, StepClient}
+use Rattle.node_run.specs.Node.{Line, At, Assign, StepIndexer, RestartIndexer, RestartClient, StepMerger, RestartMerger, StepCollector, RestartCollector, RestartNode, Open, StepClient}
 
 abbrev byte_at : ℕ → List ℕ → ℕ
 byte_at k [] = 0
@@ -45,6 +45,8 @@ at_only rest (Assign i names) s = absurd (differ 1 _ _ refl s.is)
 at_only rest (StepIndexer i) s = absurd (differ 0 _ _ refl s.is)
 at_only rest (RestartIndexer i) s = absurd (differ 0 _ _ refl s.is)
 at_only rest (RestartClient name) s = absurd (differ 0 _ _ refl s.is)
+at_only rest StepMerger s = absurd (differ 0 _ _ refl s.is)
+at_only rest RestartMerger s = absurd (differ 0 _ _ refl s.is)
 at_only rest StepCollector s = absurd (differ 0 _ _ refl s.is)
 at_only rest RestartCollector s = absurd (differ 0 _ _ refl s.is)
 at_only rest RestartNode s = absurd (differ 0 _ _ refl s.is)
@@ -57,6 +59,8 @@ assign_only rest (Assign i names) s = record { indexer = i; names = names; text 
 assign_only rest (StepIndexer i) s = absurd (differ 0 _ _ refl s.is)
 assign_only rest (RestartIndexer i) s = absurd (differ 0 _ _ refl s.is)
 assign_only rest (RestartClient name) s = absurd (differ 0 _ _ refl s.is)
+assign_only rest StepMerger s = absurd (differ 0 _ _ refl s.is)
+assign_only rest RestartMerger s = absurd (differ 0 _ _ refl s.is)
 assign_only rest StepCollector s = absurd (differ 0 _ _ refl s.is)
 assign_only rest RestartCollector s = absurd (differ 0 _ _ refl s.is)
 assign_only rest RestartNode s = absurd (differ 0 _ _ refl s.is)
@@ -69,6 +73,8 @@ client_only rest (Assign i names) s = absurd (differ 0 _ _ refl s.is)
 client_only rest (StepIndexer i) s = absurd (differ 0 _ _ refl s.is)
 client_only rest (RestartIndexer i) s = absurd (differ 0 _ _ refl s.is)
 client_only rest (RestartClient name) s = absurd (differ 0 _ _ refl s.is)
+client_only rest StepMerger s = absurd (differ 0 _ _ refl s.is)
+client_only rest RestartMerger s = absurd (differ 0 _ _ refl s.is)
 client_only rest StepCollector s = absurd (differ 1 _ _ refl s.is)
 client_only rest RestartCollector s = absurd (differ 0 _ _ refl s.is)
 client_only rest RestartNode s = absurd (differ 0 _ _ refl s.is)

@@ -12,12 +12,18 @@ use Rattle.indexing_run.specs.Steps.{Stepped, step_indexer}
 use Rattle.root_search.specs.Steps.{Searched, step_client}
 use Rattle.split_collector.specs.Steps.{step_collector}
 use Rattle.split_collector.specs.Steps as collecting
+use Rattle.upkeep_run.specs.Places.{Place as Worker}
+use Rattle.upkeep_run.specs.Steps.{step_worker}
+use Rattle.upkeep_run.specs.Steps as working
+use Rattle.upkeep_run.specs.declared.work.Aim.{Aim}
+use Rattle.upkeep_run.specs.declared.work.Aim.TheVariants.{Merging}
 use Rattle.node_run.specs.Calm.{IsStill, log_counts, IsOfThese}
-use Rattle.node_run.specs.Node.{Node, Line, At, Assign, StepIndexer, RestartIndexer, RestartClient, StepCollector, RestartCollector, RestartNode, Open, StepClient, Outcome}
-use Rattle.node_run.specs.Turns.{Luck, calm, Turned, indexer_at, client_named, indexing_luck, searching_luck, said_by_indexer, said_by_client, indexer_stepped, indexer_turn_by, client_stepped, client_turn_by, collecting_luck, said_by_collector, collector_stepped, collector_turn_by, restart_by, restart_given, full_turn, or_quiet, turn_by, turn, Turns, run_turned, turns, turns_with, with_calm}
+use Rattle.node_run.specs.Node.{Node, Line, At, Assign, StepIndexer, RestartIndexer, RestartClient, StepMerger, RestartMerger, StepCollector, RestartCollector, RestartNode, Open, StepClient, Outcome}
+use Rattle.node_run.specs.Turns.{Luck, calm, Turned, indexer_at, client_named, indexing_luck, searching_luck, said_by_indexer, said_by_client, indexer_stepped, indexer_turn_by, client_stepped, client_turn_by, working_luck, said_by_worker, worker_stepped, worker_turn_by, with_merger, collecting_luck, said_by_collector, collector_stepped, collector_turn_by, restart_by, restart_given, full_turn, or_quiet, turn_by, turn, Turns, run_turned, turns, turns_with, with_calm}
 use Rattle.node_run.proofs.Calming.{Same, Calms}
 use Rattle.node_run.proofs.CalmSteps.{StepCalms, SearchCalms, calm_indexing, calm_searching, loaded_calms, indexer_calms, client_calms}
 use Rattle.node_run.proofs.CollectorCalms.{CollectCalms, calm_collecting, collector_calms}
+use Rattle.node_run.proofs.WorkerCalms.{WorkCalms, calm_working, worker_calms}
 use Rattle.node_run.proofs.StagedNumbers.{numbers_grow}
 use Rattle.node_run.proofs.StillCalls.{opened_calm, turn_still}
 use Rattle.node_run.proofs.Moving.{restart_same, turn_later, turns_later}
@@ -60,6 +66,11 @@ module _ (luck : Luck) (node : Node) (s : IsStill node.core) (below : Below node
   client_calm name step calm_step (inl e) = inl (ap (said_by_client name) e)
   client_calm name step calm_step (inr e) = inr (ap (client_stepped name node) e)
 
+  worker_calm : (aim : Aim) (keep : Worker → Node → Node) (step calm_step : working.Stepped) → WorkCalms step calm_step →
+      TurnCalms (worker_stepped aim keep node step) (worker_stepped aim keep node calm_step)
+  worker_calm aim keep step calm_step (inl e) = inl (ap (said_by_worker aim) e)
+  worker_calm aim keep step calm_step (inr e) = inr (ap (worker_stepped aim keep node) e)
+
   collector_calm : (step calm_step : collecting.Stepped) → CollectCalms step calm_step → TurnCalms (collector_stepped node step) (collector_stepped node calm_step)
   collector_calm step calm_step (inl e) = inl (ap said_by_collector e)
   collector_calm step calm_step (inr e) = inr (ap (collector_stepped node) e)
@@ -81,6 +92,13 @@ module _ (luck : Luck) (node : Node) (s : IsStill node.core) (below : Below node
       let client = client_named name node.clients in
       client_calm name (step_client (searching_luck luck) node.log client node.core) (step_client calm_searching node.log client node.core)
       (client_calms (searching_luck luck) node.log client node.core s same)
+
+  worker_line_calm : (down : Bool) (aim : Aim) (worker : Worker) (keep : Worker → Node → Node) → Same node.core (worker_turn_by down aim worker keep luck node).node.core →
+      TurnCalms (worker_turn_by down aim worker keep luck node) (worker_turn_by down aim worker keep calm node)
+  worker_line_calm true aim worker keep same = inr refl
+  worker_line_calm false aim worker keep same =
+      worker_calm aim keep (step_worker aim (working_luck luck) node.log worker node.core) (step_worker aim calm_working node.log worker node.core)
+      (worker_calms (working_luck luck) node.log node.core s aim worker same)
 
   collector_line_calm : (down : Bool) → IsSpelled (collector_turn_by down luck node).node.core → Same node.core (collector_turn_by down luck node).node.core →
       TurnCalms (collector_turn_by down luck node) (collector_turn_by down calm node)
@@ -107,6 +125,8 @@ module _ (luck : Luck) (node : Node) (s : IsStill node.core) (below : Below node
   full_calms (StepIndexer i) of small same counts = indexer_line_calm node.down i of same counts
   full_calms (RestartIndexer i) of small same counts = inr refl
   full_calms (RestartClient name) of small same counts = inr refl
+  full_calms StepMerger of small same counts = worker_line_calm node.down Merging node.merger with_merger same
+  full_calms RestartMerger of small same counts = inr refl
   full_calms StepCollector of small same counts = collector_line_calm node.down small same
   full_calms RestartCollector of small same counts = inr refl
   full_calms RestartNode of small same counts = restart_line_calm same

@@ -2,11 +2,13 @@ pub mod OnLiterals
 pub mod Rows
 pub mod CallMoves
 pub mod CollectorMoves
+pub mod WorkerMoves
 pub mod Moving
 pub mod Spelling
 pub mod Calming
 pub mod CalmSteps
 pub mod CollectorCalms
+pub mod WorkerCalms
 pub mod StagedNumbers
 pub mod Digits
 pub mod Begins
@@ -21,7 +23,9 @@ pub mod Refusals
 pub mod CallTells
 pub mod OwnEntries
 pub mod CollectorTells
+pub mod WorkerTells
 pub mod Telling
+pub mod Workers
 pub mod Parts
 pub mod StillCalls
 pub mod LogCounts

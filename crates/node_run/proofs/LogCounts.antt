@@ -15,9 +15,12 @@ use Rattle.indexing_run.specs.Places.{Batch, Held, Place, idle, reading, staged,
 use Rattle.indexing_run.specs.Steps.{Stepped, stepped, log_may_fail, log_called, take_checkpoints, idle_by, read_by, read_given, step_read, stage_by, step_stage, batch_facts, upload_by, step_upload, publish_by, step_publish, step_batch, step_place, step_indexer}
 use Rattle.indexing_run.specs.Steps as indexing
 use Rattle.root_search.specs.Steps.{Request, no_request, opened, planned, Client}
+use Rattle.upkeep_run.specs.Places.{Place as Worker}
+use Rattle.upkeep_run.specs.declared.work.Aim.{Aim}
+use Rattle.upkeep_run.specs.declared.work.Aim.TheVariants.{Merging}
 use Rattle.node_run.specs.Calm.{log_counts}
-use Rattle.node_run.specs.Node.{Node, Line, At, Assign, StepIndexer, RestartIndexer, RestartClient, StepCollector, RestartCollector, RestartNode, Open, StepClient, Outcome}
-use Rattle.node_run.specs.Turns.{Luck, Turned, made_idle, indexer_at, indexing_luck, assign_at, indexer_turn_by, client_turn_by, client_named, collector_turn_by, open_by, restart_by, full_turn, quiet, or_quiet, turn_by, Turn, Turns}
+use Rattle.node_run.specs.Node.{Node, Line, At, Assign, StepIndexer, RestartIndexer, RestartClient, StepMerger, RestartMerger, StepCollector, RestartCollector, RestartNode, Open, StepClient, Outcome}
+use Rattle.node_run.specs.Turns.{Luck, Turned, made_idle, indexer_at, indexing_luck, assign_at, indexer_turn_by, client_turn_by, client_named, worker_turn_by, with_merger, collector_turn_by, open_by, restart_by, full_turn, quiet, or_quiet, turn_by, Turn, Turns}
 use Rattle.node_run.proofs.CalmSteps.{checkpoints_log}
 
 -- ---- one count
@@ -165,6 +168,12 @@ module _ (node : Node) where
   client_counted true luck name = unchanged node.indexers refl
   client_counted false luck name = unchanged node.indexers refl
 
+  -- what is kept of a worker leaves the indexers as they are
+  worker_counted : (down : Bool) (aim : Aim) (worker : Worker) (keep : Worker → Node → Node) (luck : Luck) → ((place : Worker) → (keep place node).indexers ≡ node.indexers) →
+      Counted (worker_turn_by down aim worker keep luck node).node
+  worker_counted true aim worker keep luck same = unchanged node.indexers refl
+  worker_counted false aim worker keep luck same = unchanged _ (ap log_counts (same _))
+
   collector_counted : (down : Bool) (luck : Luck) → Counted (collector_turn_by down luck node).node
   collector_counted true luck = unchanged node.indexers refl
   collector_counted false luck = unchanged node.indexers refl
@@ -186,6 +195,8 @@ module _ (node : Node) where
   full_counted luck (StepIndexer i) = indexer_counted node.down luck i
   full_counted luck (RestartIndexer i) = set_idle i
   full_counted luck (RestartClient name) = unchanged node.indexers refl
+  full_counted luck StepMerger = worker_counted node.down Merging node.merger with_merger luck (λ place. refl)
+  full_counted luck RestartMerger = unchanged node.indexers refl
   full_counted luck StepCollector = collector_counted node.down luck
   full_counted luck RestartCollector = unchanged node.indexers refl
   full_counted luck RestartNode = let given = loaded luck.world node.core in restart_counted given.answer given.core
@@ -198,6 +209,8 @@ module _ (node : Node) where
   quiet_counted (StepIndexer i) = set_idle i
   quiet_counted (RestartIndexer i) = set_idle i
   quiet_counted (RestartClient name) = unchanged node.indexers refl
+  quiet_counted StepMerger = unchanged node.indexers refl
+  quiet_counted RestartMerger = unchanged node.indexers refl
   quiet_counted StepCollector = unchanged node.indexers refl
   quiet_counted RestartCollector = unchanged node.indexers refl
   quiet_counted RestartNode = unchanged (map made_idle node.indexers) (idle_same node.indexers)

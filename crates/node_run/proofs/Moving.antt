@@ -20,10 +20,14 @@ use Rattle.search_api.specs.Resolved.{Search}
 use Rattle.search_api.specs.declared.reply.Refusal.{Refusal}
 use Rattle.search_api.specs.declared.unanswered.Unanswered.{Unanswered}
 use Rattle.search_api.specs.declared.unanswered.Unanswered.TheVariants as reasons
-use Rattle.node_run.specs.Node.{Node, Line, At, Assign, StepIndexer, RestartIndexer, RestartClient, StepCollector, RestartCollector, RestartNode, Open, StepClient, Outcome}
-use Rattle.node_run.specs.Turns.{Luck, Turned, indexer_at, indexing_luck, searching_luck, assign_at, indexer_turn_by, client_turn_by, client_named, collecting_luck, collector_turn_by, open_by, restart_by, full_turn, quiet, or_quiet, turn_by, Turn, Turns}
+use Rattle.upkeep_run.specs.Places.{Place as Worker}
+use Rattle.upkeep_run.specs.declared.work.Aim.{Aim}
+use Rattle.upkeep_run.specs.declared.work.Aim.TheVariants.{Merging}
+use Rattle.node_run.specs.Node.{Node, Line, At, Assign, StepIndexer, RestartIndexer, RestartClient, StepMerger, RestartMerger, StepCollector, RestartCollector, RestartNode, Open, StepClient, Outcome}
+use Rattle.node_run.specs.Turns.{Luck, Turned, indexer_at, indexing_luck, searching_luck, assign_at, indexer_turn_by, client_turn_by, client_named, working_luck, worker_turn_by, with_merger, collecting_luck, collector_turn_by, open_by, restart_by, full_turn, quiet, or_quiet, turn_by, Turn, Turns}
 use Rattle.node_run.proofs.CallMoves.{Later, Moves, same, stays, later_same, later_on, moves_on, appended_moves, looked_moves, asked_and_looked_moves, asked_moves, file_made_moves, each_moves, loaded_moves}
 use Rattle.node_run.proofs.CollectorMoves.{collector_moves}
+use Rattle.node_run.proofs.WorkerMoves.{worker_moves}
 
 -- ---- an indexer's step
 
@@ -175,6 +179,11 @@ pub client_turn_moves : (down : Bool) (luck : Luck) (name : List ℕ) (node : No
 client_turn_moves true luck name node = stays refl
 client_turn_moves false luck name node = client_moves (searching_luck luck) node.log (client_named name node.clients) node.core
 
+pub worker_turn_moves : (down : Bool) (aim : Aim) (worker : Worker) (keep : Worker → Node → Node) (luck : Luck) (node : Node) →
+    Moves node.core (worker_turn_by down aim worker keep luck node).node.core
+worker_turn_moves true aim worker keep luck node = stays refl
+worker_turn_moves false aim worker keep luck node = worker_moves (working_luck luck) node.log node.core aim worker
+
 pub collector_turn_moves : (down : Bool) (luck : Luck) (node : Node) → Moves node.core (collector_turn_by down luck node).node.core
 collector_turn_moves true luck node = stays refl
 collector_turn_moves false luck node = collector_moves (collecting_luck luck) node.core
@@ -186,6 +195,8 @@ full_later luck node (Assign i names) =
 full_later luck node (StepIndexer i) = (indexer_turn_moves node.down luck i node).later
 full_later luck node (RestartIndexer i) = later_same refl refl
 full_later luck node (RestartClient name) = later_same refl refl
+full_later luck node StepMerger = (worker_turn_moves node.down Merging node.merger with_merger luck node).later
+full_later luck node RestartMerger = later_same refl refl
 full_later luck node StepCollector = (collector_turn_moves node.down luck node).later
 full_later luck node RestartCollector = later_same refl refl
 full_later luck node RestartNode =
@@ -200,6 +211,8 @@ quiet_same (Assign i names) node = refl
 quiet_same (StepIndexer i) node = refl
 quiet_same (RestartIndexer i) node = refl
 quiet_same (RestartClient name) node = refl
+quiet_same StepMerger node = refl
+quiet_same RestartMerger node = refl
 quiet_same StepCollector node = refl
 quiet_same RestartCollector node = refl
 quiet_same RestartNode node = refl

@@ -9,8 +9,13 @@ use Rattle.indexing_run.proofs.Printing.{IsStarted, behind_word, error_started, 
 use Rattle.split_collector.specs.Standing.{said_words as collected_words}
 use Rattle.split_collector.specs.declared.outcome.CollectorOutcome.{CollectorOutcome as Collected}
 use Rattle.split_collector.specs.declared.outcome.CollectorOutcome.TheVariants as collected
+use Rattle.upkeep_run.specs.Standing.{said_words as worked_words}
+use Rattle.upkeep_run.specs.declared.outcome.UpkeepOutcome.{UpkeepOutcome as Worked}
+use Rattle.upkeep_run.specs.declared.outcome.UpkeepOutcome.TheVariants as worked
+use Rattle.upkeep_run.specs.declared.work.Aim.{Aim}
 use Rattle.node_run.specs.declared.out_line.OutLine.{OutLine}
-use Rattle.node_run.specs.Printing.{collected_text, said_text}
+use Rattle.node_run.specs.Lines.{worker_word}
+use Rattle.node_run.specs.Printing.{collected_text, said_text, worked_text}
 
 -- ---- a line, or no memory for it
 
@@ -46,3 +51,19 @@ collected_started (collected.Fault error) = error_started error
 -- the collector's words behind its name
 pub collector_words : (outcome : Collected) → codes "collector" ++ 32 ∷ words (collected_words outcome) ≡ collected_text outcome
 collector_words outcome = sym (behind_word (codes "collector") (collected_words outcome) (collected_started outcome))
+
+worked_started : (given : Worked) → IsStarted (worked_words given)
+worked_started worked.Nothing = tt
+worked_started (worked.Planned count) = tt
+worked_started (worked.Fetched number) = tt
+worked_started (worked.Staged number) = tt
+worked_started (worked.Uploaded number) = tt
+worked_started (worked.Replaced number) = tt
+worked_started (worked.Raised number) = tt
+worked_started (worked.Lost number refusal) = tt
+worked_started (worked.Refused refusal) = tt
+worked_started (worked.Fault error) = error_started error
+
+-- a worker's words behind its name
+pub worker_words : (aim : Aim) (outcome : Worked) → worker_word aim ++ 32 ∷ words (worked_words outcome) ≡ worked_text aim outcome
+worker_words aim outcome = sym (behind_word (worker_word aim) (worked_words outcome) (worked_started outcome))

@@ -2,26 +2,33 @@
 use Rattle.std.proofs.Common.{◌≡◌, ℕ, List, [], ◌∷◌, refl, sym, Bool, true, false, subst, arith}
 use Rattle.std.specs.Prelude.{Option, Some, None, Result, Ok, Err, ⊤, if◌then◌else◌, ◌==◌, is_some, length}
 use Rattle.meta_journal.specs.declared.entry.Act.{Act}
-use Rattle.meta_journal.specs.declared.entry.Act.TheVariants.{Publish}
+use Rattle.meta_journal.specs.declared.entry.Act.TheVariants.{Publish, Raise, Replace}
 use Rattle.meta_journal.specs.declared.entry.Entry.{Entry}
 use Rattle.meta_journal.specs.Places.{split_key}
 use Rattle.source_checkpoint.specs.declared.ledger.Checkpoint.{Checkpoint}
 use Rattle.source_log.specs.Log.{Log}
 use Rattle.index_world.specs.Calls.{done_never, Unmade, begun, calm_call, calm_fate, made_behind, adopted_making, first_unless, transact, appended, entry_of, may_append, unless_short, and_then, settle_with, looked, asked, asked_clock, asked_and_looked, file_by, file_made, Grace, fetched, reborn, unless_empty, loaded}
 use Rattle.index_world.specs.Core.{Core, file_at}
-use Rattle.index_world.specs.Gate.{stage_call, publish_call, stage_act}
+use Rattle.index_world.specs.Gate.{raise_call, replace_call, stage_call, publish_call, stage_act}
 use Rattle.index_world.specs.SplitFile.{file_of}
 use Rattle.indexing_run.specs.Outcomes as said
 use Rattle.indexing_run.specs.Places.{Batch, Held, Place, idle, reading, staged, uploaded, Indexer}
 use Rattle.indexing_run.specs.Steps.{Stepped, stepped, log_may_fail, log_called, take_checkpoints, idle_by, step_read, step_stage, batch_facts, step_upload, step_publish, step_batch, step_place, step_indexer}
 use Rattle.root_search.specs.Requests.{asked_of}
 use Rattle.root_search.specs.Steps.{Request, no_request, opened, planned, Plan, Client, config_in, next_step, step_request, step_client}
+use Rattle.split_states.specs.declared.rows.Row.{Row}
+use Rattle.upkeep_run.specs.Places as workers
+use Rattle.upkeep_run.specs.Steps as working
+use Rattle.upkeep_run.specs.declared.work.Aim.{Aim}
+use Rattle.upkeep_run.specs.declared.work.Aim.TheVariants.{Deleting, Merging}
 use Rattle.node_run.specs.Calm.{IsStill}
-use Rattle.node_run.specs.Node.{Node, Line, At, Assign, StepIndexer, RestartIndexer, RestartClient, StepCollector, RestartCollector, RestartNode, Open, StepClient}
-use Rattle.node_run.specs.Turns.{calm, indexer_at, client_named, indexer_turn_by, client_turn_by, collector_turn_by, turn}
+use Rattle.node_run.specs.Node.{Node, Line, At, Assign, StepIndexer, RestartIndexer, RestartClient, StepMerger, RestartMerger, StepCollector, RestartCollector, RestartNode, Open, StepClient}
+use Rattle.node_run.specs.Turns.{calm, indexer_at, client_named, indexer_turn_by, client_turn_by, worker_turn_by, with_merger, collector_turn_by, turn}
 use Rattle.node_run.proofs.Calming.{asked_still, calm_risen, fetched_calm}
 use Rattle.node_run.proofs.CalmSteps.{calm_indexing, calm_searching, load_still}
 use Rattle.node_run.proofs.CollectorCalms.{collector_still}
+use Rattle.node_run.proofs.WorkerCalms.{calm_working}
+use Rattle.node_run.proofs.WorkerMoves.{fetched_same, planned_same, raised_same, replaced_same, staged_same, uploaded_same}
 use Rattle.node_run.proofs.Moving.{checkpoints_same, stage_same, upload_same, publish_same, given_same, plan_same, fetch_same, assign_same, open_same, restart_same}
 
 begun_still : (core : Core) → IsStill core → IsStill (begun calm_call core)
@@ -149,6 +156,51 @@ module _ (log : Log) (client : Client) (core : Core) (s : IsStill core) where
   client_still : IsStill (step_client calm_searching log client core).core
   client_still = request_still client.request
 
+-- ---- a worker's step
+
+module _ (log : Log) (core : Core) (s : IsStill core) where
+  planned_still : (aim : Aim) → IsStill (working.step_plan aim calm_working log core).core
+  planned_still aim =
+      let given = asked_and_looked calm_fate core in
+      handed given.core _ (planned_same aim given.answer log given.core) (looked_still (asked_clock core) (asked_still core s))
+
+  staged_still : (held : ℕ → workers.Held) → IsStill (working.step_stage calm_working held core).core
+  staged_still held =
+      let given = stage_call [] (workers.held_facts (held 0)) calm_fate core in
+      handed given.core _ (staged_same given.answer held given.core) (appended_still (stage_act [] (workers.held_facts (held 0))) core s)
+
+  raised_still : (number upto : ℕ) → IsStill (working.step_raise calm_working number upto core).core
+  raised_still number upto =
+      let given = raise_call number upto calm_fate core in
+      handed given.core _ (raised_same given.answer number given.core) (appended_still (λ c. Raise number upto) core s)
+
+  choice_still : (b : Bool) (x y : working.Stepped) → IsStill x.core → IsStill y.core → IsStill (if b then x else y).core
+  choice_still true x y h k = h
+  choice_still false x y h k = k
+
+  closed_still : (aim : Aim) (work : workers.Work) → IsStill (working.step_close aim calm_working work core).core
+  closed_still Merging work = staged_still (working.held_of Merging work core)
+  closed_still Deleting work =
+      let number = working.first_number work.rows in
+      choice_still (working.drops_none work core) (working.step_raise calm_working number work.upto core) (working.step_stage calm_working (working.held_of Deleting work core) core)
+      (raised_still number work.upto) (staged_still (working.held_of Deleting work core))
+
+  work_still : (aim : Aim) (work : workers.Work) (unfetched : List Row) → IsStill (working.step_work aim calm_working work unfetched core).core
+  work_still aim work [] = closed_still aim work
+  work_still aim work (row ∷ more) =
+      let given = fetched (working.grace_in work) calm_fate core in
+      handed given.core _ (fetched_same given.answer work row.number more given.core) (fetched_still (working.grace_in work) core s)
+
+  pub worker_still : (aim : Aim) (place : workers.Place) → IsStill (working.step_worker aim calm_working log place core).core
+  worker_still aim workers.idle = planned_still aim
+  worker_still aim (workers.fetching work) = work_still aim work work.unfetched
+  worker_still aim (workers.staged held) =
+      let given = file_made calm_call (split_key held.number) (workers.held_file held) core in
+      handed given.core _ (uploaded_same given.answer held given.core) (file_made_still (split_key held.number) (workers.held_file held) core s)
+  worker_still aim (workers.uploaded held) =
+      let given = replace_call held.number held.old held.upto calm_fate core in
+      handed given.core _ (replaced_same given.answer held.number given.core) (appended_still (λ c. Replace held.number held.old held.upto) core s)
+
 -- ---- a line
 
 -- an opening with a calm fate
@@ -175,6 +227,10 @@ module _ (node : Node) (s : IsStill node.core) where
   client_turn_still true name = s
   client_turn_still false name = client_still node.log (client_named name node.clients) node.core s
 
+  worker_turn_still : (down : Bool) (aim : Aim) (worker : workers.Place) (keep : workers.Place → Node → Node) → IsStill (worker_turn_by down aim worker keep calm node).node.core
+  worker_turn_still true aim worker keep = s
+  worker_turn_still false aim worker keep = worker_still node.log node.core s aim worker
+
   collector_turn_still : (down : Bool) → IsStill (collector_turn_by down calm node).node.core
   collector_turn_still true = s
   collector_turn_still false = collector_still node.core s
@@ -187,6 +243,8 @@ module _ (node : Node) (s : IsStill node.core) where
   turn_still (StepIndexer i) = indexer_turn_still node.down i
   turn_still (RestartIndexer i) = s
   turn_still (RestartClient name) = s
+  turn_still StepMerger = worker_turn_still node.down Merging node.merger with_merger
+  turn_still RestartMerger = s
   turn_still StepCollector = collector_turn_still node.down
   turn_still RestartCollector = s
   turn_still RestartNode =

@@ -35,12 +35,19 @@ use Rattle.search_api.specs.declared.reply.Refusal.{Refusal as Unfit}
 use Rattle.search_api.specs.declared.unanswered.Unanswered.{Unanswered}
 use Rattle.search_api.specs.declared.unanswered.Unanswered.TheVariants as reasons
 use Rattle.split_collector.specs.Outcomes.{Outcome as CollectorOutcome}
-use Rattle.node_run.specs.Node.{Node, Line, At, Assign, StepIndexer, RestartIndexer, RestartClient, StepCollector, RestartCollector, RestartNode, Open, StepClient, Outcome}
+use Rattle.upkeep_run.specs.Outcomes.{UpkeepOutcome}
+use Rattle.upkeep_run.specs.Places.{Place as Worker}
+use Rattle.upkeep_run.specs.Standing as works
+use Rattle.upkeep_run.specs.declared.work.Aim.{Aim}
+use Rattle.upkeep_run.specs.declared.work.Aim.TheVariants.{Merging}
+use Rattle.upkeep_run.specs.declared.work.Place.{Place as WorkerPlace}
+use Rattle.node_run.specs.Node.{Node, Line, At, Assign, StepIndexer, RestartIndexer, RestartClient, StepMerger, RestartMerger, StepCollector, RestartCollector, RestartNode, Open, StepClient, Outcome}
 use Rattle.node_run.specs.Telling.{IndexerMayTell, IsOfText, SearchMayTell, LineMayTell}
-use Rattle.node_run.specs.Turns.{Luck, Turned, indexer_or, indexer_at, indexing_luck, searching_luck, said_by_indexer, said_by_client, assign_at, indexer_turn_by, client_turn_by, client_named, collecting_luck, collector_turn_by, said_by_collector, open_by, restart_by, full_turn, or_quiet, turn_by, Turn}
+use Rattle.node_run.specs.Turns.{Luck, Turned, indexer_or, indexer_at, indexing_luck, searching_luck, said_by_indexer, said_by_client, assign_at, indexer_turn_by, client_turn_by, client_named, working_luck, said_by_worker, worker_turn_by, with_merger, collecting_luck, collector_turn_by, said_by_collector, open_by, restart_by, full_turn, or_quiet, turn_by, Turn}
 use Rattle.node_run.proofs.Refusals.{OfText, asked_of_text, text_may, answer_may}
 use Rattle.node_run.proofs.CallTells.{AreLow, IsStoreTrouble, IsOwnTrouble, IfErr, appended_own, file_own, copied_own, asked_and_looked_own, asked_own, IsFetchTrouble, each_own, IsStoreUnread, load_own, IsFree, store_not_foreign}
 use Rattle.node_run.proofs.CollectorTells.{Tells, collector_tells}
+use Rattle.node_run.proofs.WorkerTells.{WorkTells, WorkerIsFree, worker_free, worker_tells}
 use Rattle.node_run.proofs.OwnEntries.{IsLawful, world_lawful}
 
 -- ---- an indexer's step
@@ -225,6 +232,10 @@ client_line : (name : List ℕ) (outcome : Option SearchStep) → SearchTells ou
 client_line name None h = tt
 client_line name (Some outcome) h = h
 
+worker_line : (aim : Aim) (outcome : Option UpkeepOutcome) → WorkTells aim outcome → LineMayTell (said_by_worker aim outcome)
+worker_line aim None h = tt
+worker_line aim (Some outcome) h = h
+
 collector_line : (outcome : Option CollectorOutcome) → Tells outcome → LineMayTell (said_by_collector outcome)
 collector_line None h = tt
 collector_line (Some outcome) h = h
@@ -239,6 +250,7 @@ restart_tells (Err calls.no_index) core node h = tt
 record IsOwn (node : Node) : Type 0 where
   lawful : IsLawful node.core
   free : AllByRecursion (λ indexer. PlaceIsFree node.core indexer.place) node.indexers
+  merger_free : WorkerIsFree node.core node.merger
 
 free_or : (core : Core) (o : Option Indexer) → ((indexer : Indexer) → o ≡ Some indexer → PlaceIsFree core indexer.place) → PlaceIsFree core (indexer_or o).place
 free_or core None f = tt
@@ -266,6 +278,10 @@ module _ (luck : Luck) (node : Node) (own : IsOwn node) where
   client_turn_tells true name = tt
   client_turn_tells false name = client_line name _ (client_tells (searching_luck luck) node.log (client_named name node.clients) node.core)
 
+  worker_turn_tells : (down : Bool) (aim : Aim) (worker : Worker) (keep : Worker → Node → Node) → WorkerIsFree node.core worker → LineMayTell (worker_turn_by down aim worker keep luck node).said
+  worker_turn_tells true aim worker keep free = tt
+  worker_turn_tells false aim worker keep free = worker_line aim _ (worker_tells (working_luck luck) node.log node.core own.lawful.low aim worker free)
+
   collector_turn_tells : (down : Bool) → LineMayTell (collector_turn_by down luck node).said
   collector_turn_tells true = tt
   collector_turn_tells false = collector_line _ (collector_tells (collecting_luck luck) node.core own.lawful)
@@ -276,6 +292,8 @@ module _ (luck : Luck) (node : Node) (own : IsOwn node) where
   full_tells (StepIndexer i) = indexer_turn_tells node.down i
   full_tells (RestartIndexer i) = tt
   full_tells (RestartClient name) = tt
+  full_tells StepMerger = worker_turn_tells node.down Merging node.merger with_merger own.merger_free
+  full_tells RestartMerger = tt
   full_tells StepCollector = collector_turn_tells node.down
   full_tells RestartCollector = tt
   full_tells RestartNode =
@@ -312,9 +330,14 @@ module _ {L : Type 0} (told : L → Option Log) (count : L → ℕ) (core : Core
   readers_free (reader ∷ readers) [] z = absurd z
   readers_free (reader ∷ readers) (indexer ∷ indexers) z = (placed_free log core reader.place indexer.place z.0.place, readers_free readers indexers z.1)
 
-pub stands_own : {L : Type 0} (told : L → Option Log) (count : L → ℕ) (node : Node) (world : Keeping) (readers : List (Reader L)) →
-    WorldStands world node.core node.log → AllZip (λ reader indexer. IndexerStands told count reader indexer node.core node.log) readers node.indexers →
+pub stands_own : {L : Type 0} (told : L → Option Log) (count : L → ℕ) (node : Node) (world : Keeping) (readers : List (Reader L)) (merger : WorkerPlace) →
+    WorldStands world node.core node.log → AllZip (λ reader indexer. IndexerStands told count reader indexer node.core node.log) readers node.indexers → works.PlaceStands Merging node.log node.core merger node.merger →
     (line : Line) (said : Option Outcome) (last : Node) → Turn node line said last → LineMayTell said
-stands_own told count node world readers stands indexers line said last turn =
+stands_own told count node world readers merger stands indexers merging line said last turn =
     turn_tells node line said last
-    (record { lawful = world_lawful world node.core node.log stands; free = readers_free told count node.core node.log readers node.indexers indexers }) turn
+    (record {
+      lawful = world_lawful world node.core node.log stands;
+      free = readers_free told count node.core node.log readers node.indexers indexers;
+      merger_free = worker_free Merging node.log node.core merger node.merger merging;
+    })
+    turn

@@ -72,12 +72,12 @@ map_at f (a ∷ xs) (suc i) x e = map_at f xs i x e
 apart_back : (a b : Indexer) → HoldApart a b → HoldApart b a
 apart_back a b h n at_b at_a = h n at_a at_b
 
-all_at : (P : Indexer → Type 0) (ys : List Indexer) (i : ℕ) → AllByRecursion P ys → i < length ys → P (indexer_at ys i)
+pub all_at : (P : Indexer → Type 0) (ys : List Indexer) (i : ℕ) → AllByRecursion P ys → i < length ys → P (indexer_at ys i)
 all_at P [] i all h = absurd (omega (arith, h))
 all_at P (y ∷ ys) zero all h = all.0
 all_at P (y ∷ ys) (suc i) all h = all_at P ys i all.1 (omega (arith, h))
 
-all_set : (P : Indexer → Type 0) (ys : List Indexer) (i : ℕ) (y : Indexer) → AllByRecursion P ys → P y → AllByRecursion P (slice_set ys i y)
+pub all_set : (P : Indexer → Type 0) (ys : List Indexer) (i : ℕ) (y : Indexer) → AllByRecursion P ys → P y → AllByRecursion P (slice_set ys i y)
 all_set P [] i y all p = tt
 all_set P (b ∷ ys) zero y all p = (p, all.1)
 all_set P (b ∷ ys) (suc i) y all p = (all.0, all_set P ys i y all.1 p)
@@ -94,14 +94,14 @@ others_apart (y ∷ ys) zero apart h = apart.0
 others_apart (y ∷ ys) (suc i) apart h =
     (apart_back y (indexer_at ys i) (all_at (HoldApart y) ys i apart.0 (omega (arith, h))), others_apart ys i apart.1 (omega (arith, h)))
 
-all_both : {A : Type 0} (R : A → Indexer → Type 0) (C D : Indexer → Type 0) (xs : List A) (ys : List Indexer) → AllZip R xs ys → AllByRecursion C ys →
+pub all_both : {A : Type 0} (R : A → Indexer → Type 0) (C D : Indexer → Type 0) (xs : List A) (ys : List Indexer) → AllZip R xs ys → AllByRecursion C ys →
     ((x : A) (y : Indexer) → R x y → C y → D y) → AllByRecursion D ys
 all_both R C D [] [] z all f = tt
 all_both R C D [] (y ∷ ys) z all f = absurd z
 all_both R C D (x ∷ xs) [] z all f = absurd z
 all_both R C D (x ∷ xs) (y ∷ ys) z all f = (f x y z.0 all.0, all_both R C D xs ys z.1 all.1 f)
 
-zip_both : {A : Type 0} (R Q : A → Indexer → Type 0) (C : Indexer → Type 0) (xs : List A) (ys : List Indexer) → AllZip R xs ys → AllByRecursion C ys →
+pub zip_both : {A : Type 0} (R Q : A → Indexer → Type 0) (C : Indexer → Type 0) (xs : List A) (ys : List Indexer) → AllZip R xs ys → AllByRecursion C ys →
     ((x : A) (y : Indexer) → R x y → C y → Q x y) → AllZip Q xs ys
 zip_both R Q C [] [] z all f = tt
 zip_both R Q C [] (y ∷ ys) z all f = absurd z

@@ -19,6 +19,14 @@ use Rattle.split_collector.specs.Outcomes.{Outcome as CollectorOutcome}
 use Rattle.split_collector.specs.Standing as collects
 use Rattle.split_collector.specs.Steps.{Luck as CollectingLuck, step_collector}
 use Rattle.split_collector.specs.declared.outcome.CollectorOutcome.{CollectorOutcome as Collected}
+use Rattle.upkeep_run.specs.Outcomes.{UpkeepOutcome}
+use Rattle.upkeep_run.specs.Places.{Place as Worker}
+use Rattle.upkeep_run.specs.Places as workers
+use Rattle.upkeep_run.specs.Standing as works
+use Rattle.upkeep_run.specs.Steps.{Luck as WorkingLuck, step_worker}
+use Rattle.upkeep_run.specs.declared.outcome.UpkeepOutcome.{UpkeepOutcome as Worked}
+use Rattle.upkeep_run.specs.declared.work.Aim.{Aim}
+use Rattle.upkeep_run.specs.declared.work.Place.{Place as WorkerPlace}
 
 -- it is the client's step with some luck, and what it leaves stands for what that leaves
 pub record SearchesAlone (result : Result SearchStep AllocError) (new : Searcher) (world : Keeping) (client : Client) (core : Core) (log : Log) : Type 0 where
@@ -41,6 +49,20 @@ pub record CollectsAlone (result : Result Collected AllocError) (world : Keeping
   pub says : collects.Answers result outcome
   pub world_stands : WorldStands world after log
   pub goes_on : GoesOn None core after
+
+-- it is the worker's step with some luck, and what it holds then stands for where that leaves it
+pub record WorksAlone (aim : Aim) (result : Result Worked AllocError) (worker : Worker) (core : Core) (log : Log) (kept : WorkerPlace) (world : Keeping) : Type 0 where
+  pub luck : WorkingLuck
+  pub outcome : Option UpkeepOutcome
+  pub after : Worker
+  pub behind : Core
+  pub did : step_worker aim luck log worker core ≡ record { outcome = outcome; place = after; core = behind }
+  pub answer : works.Answers result outcome
+  pub stands : works.PlaceStands aim log behind kept after
+  pub world_stands : WorldStands world behind log
+  pub goes_on : GoesOn (workers.number_held worker) core behind
+  -- a number that it holds from now on was not staged before, or is the one that it held
+  pub apart : (n : ℕ) → has_staged (journal_of core) n ≡ true → workers.number_held after ≡ Some n → workers.number_held worker ≡ Some n
 
 -- it is the indexer's step with some luck, and what it leaves stands for what that leaves
 pub record StepsAlone {L : Type 0} (tells : L → Option Log) (count : L → ℕ) (result : Result Said AllocError) (indexer : Indexer) (core : Core) (log : Log) (reader : Reader L) (world : Keeping) : Type 0 where

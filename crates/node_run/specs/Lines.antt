@@ -8,7 +8,10 @@ use Rattle.root_search.specs.Steps.{step_words}
 use Rattle.root_search.specs.declared.outcome.SearchStep.{SearchStep}
 use Rattle.root_search.specs.declared.outcome.SearchStep.TheVariants.{Idle, Planned, Fetched, Replied}
 use Rattle.split_collector.specs.Outcomes.{outcome_words as collector_words}
-use Rattle.node_run.specs.Node.{Line, At, Assign, StepIndexer, RestartIndexer, RestartClient, StepCollector, RestartCollector, RestartNode, Open, StepClient, NodeFault, world_fault, no_index, Outcome, at_said, assigned, indexer_busy, indexer_said, indexer_down, indexer_restarted, client_restarted, collector_said, collector_down, collector_restarted, node_restarted, node_failed, request_opened, request_busy, client_said, client_down}
+use Rattle.upkeep_run.specs.Outcomes.{outcome_words as upkeep_words}
+use Rattle.upkeep_run.specs.declared.work.Aim.{Aim}
+use Rattle.upkeep_run.specs.declared.work.Aim.TheVariants.{Merging, Deleting}
+use Rattle.node_run.specs.Node.{Line, At, Assign, StepIndexer, RestartIndexer, RestartClient, StepMerger, RestartMerger, StepCollector, RestartCollector, RestartNode, Open, StepClient, NodeFault, world_fault, no_index, Outcome, at_said, assigned, indexer_busy, indexer_said, indexer_down, indexer_restarted, client_restarted, worker_said, worker_down, worker_restarted, collector_said, collector_down, collector_restarted, node_restarted, node_failed, request_opened, request_busy, client_said, client_down}
 
 abbrev pub line_text : Line → List ℕ
 line_text (At moment) = words (codes "at" ∷ decimal moment ∷ [])
@@ -16,6 +19,8 @@ line_text (Assign indexer partitions) = words (codes "assign" ∷ decimal indexe
 line_text (StepIndexer indexer) = words (codes "indexer" ∷ decimal indexer ∷ [])
 line_text (RestartIndexer indexer) = words (codes "restart" ∷ codes "indexer" ∷ decimal indexer ∷ [])
 line_text (RestartClient client) = words (codes "restart" ∷ codes "client" ∷ client ∷ [])
+line_text StepMerger = words (codes "merger" ∷ [])
+line_text RestartMerger = words (codes "restart" ∷ codes "merger" ∷ [])
 line_text StepCollector = words (codes "collector" ∷ [])
 line_text RestartCollector = words (codes "restart" ∷ codes "collector" ∷ [])
 line_text RestartNode = words (codes "restart" ∷ codes "node" ∷ [])
@@ -36,6 +41,8 @@ IsWellFormed (Assign indexer partitions) = (indexer < 2 ^ 64) × AreNames partit
 IsWellFormed (StepIndexer indexer) = indexer < 2 ^ 64
 IsWellFormed (RestartIndexer indexer) = indexer < 2 ^ 64
 IsWellFormed (RestartClient client) = IsClientName client
+IsWellFormed StepMerger = Unit {0}
+IsWellFormed RestartMerger = Unit {0}
 IsWellFormed StepCollector = Unit {0}
 IsWellFormed RestartCollector = Unit {0}
 IsWellFormed RestartNode = Unit {0}
@@ -60,6 +67,11 @@ abbrev pub node_fault_words : NodeFault → List (List ℕ)
 node_fault_words (world_fault fault) = fault_words fault
 node_fault_words no_index = codes "noindex" ∷ []
 
+-- a worker's name
+abbrev pub worker_word : Aim → List ℕ
+worker_word Merging = codes "merger"
+worker_word Deleting = codes "deleter"
+
 -- the printed line of an outcome, without its line feed
 abbrev pub outcome_text : Outcome → List ℕ
 outcome_text (at_said moment) = words (codes "at" ∷ decimal moment ∷ [])
@@ -69,6 +81,9 @@ outcome_text (indexer_said indexer outcome) = words (codes "indexer" ∷ decimal
 outcome_text (indexer_down indexer) = words (codes "indexer" ∷ decimal indexer ∷ codes "down" ∷ [])
 outcome_text (indexer_restarted indexer) = words (codes "indexer" ∷ decimal indexer ∷ codes "restarted" ∷ [])
 outcome_text (client_restarted name) = words (name ∷ codes "restarted" ∷ [])
+outcome_text (worker_said aim outcome) = words (worker_word aim ∷ upkeep_words outcome)
+outcome_text (worker_down aim) = words (worker_word aim ∷ codes "down" ∷ [])
+outcome_text (worker_restarted aim) = words (worker_word aim ∷ codes "restarted" ∷ [])
 outcome_text (collector_said outcome) = words (codes "collector" ∷ collector_words outcome)
 outcome_text collector_down = words (codes "collector" ∷ codes "down" ∷ [])
 outcome_text collector_restarted = words (codes "collector" ∷ codes "restarted" ∷ [])

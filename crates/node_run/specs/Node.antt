@@ -7,6 +7,9 @@ use Rattle.indexing_run.specs.Outcomes.{IndexerOutcome}
 use Rattle.indexing_run.specs.Places.{Indexer}
 use Rattle.root_search.specs.Steps.{Client}
 use Rattle.split_collector.specs.Outcomes.{Outcome as CollectorOutcome}
+use Rattle.upkeep_run.specs.Outcomes.{UpkeepOutcome}
+use Rattle.upkeep_run.specs.Places.{Place as Worker}
+use Rattle.upkeep_run.specs.declared.work.Aim.{Aim}
 use Rattle.root_search.specs.declared.outcome.SearchStep.{SearchStep}
 
 pub record Node : Type 0 where
@@ -14,6 +17,7 @@ pub record Node : Type 0 where
   pub core : Core
   pub down : Bool
   pub indexers : List Indexer
+  pub merger : Worker
   pub clients : List Client
 
 pub data Line : Type 0 where
@@ -22,6 +26,8 @@ pub data Line : Type 0 where
   StepIndexer : (indexer : ℕ) → Line
   RestartIndexer : (indexer : ℕ) → Line
   RestartClient : (client : List ℕ) → Line
+  StepMerger : Line
+  RestartMerger : Line
   StepCollector : Line
   RestartCollector : Line
   RestartNode : Line
@@ -41,6 +47,9 @@ pub data Outcome : Type 0 where
   indexer_down : (indexer : ℕ) → Outcome
   indexer_restarted : (indexer : ℕ) → Outcome
   client_restarted : (name : List ℕ) → Outcome
+  worker_said : Aim → UpkeepOutcome → Outcome
+  worker_down : Aim → Outcome
+  worker_restarted : Aim → Outcome
   collector_said : CollectorOutcome → Outcome
   collector_down : Outcome
   collector_restarted : Outcome

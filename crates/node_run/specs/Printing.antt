@@ -27,9 +27,15 @@ use Rattle.split_collector.specs.Ending.{CallsTo}
 use Rattle.split_collector.specs.Standing.{said_words as collected_words}
 use Rattle.split_collector.specs.Turns.{ended, to_mark}
 use Rattle.split_collector.specs.declared.outcome.CollectorOutcome.{CollectorOutcome as Collected}
+use Rattle.upkeep_run.specs.Ending as worker_ends
+use Rattle.upkeep_run.specs.Standing.{said_words as worked_words}
+use Rattle.upkeep_run.specs.declared.outcome.UpkeepOutcome.{UpkeepOutcome as Worked}
+use Rattle.upkeep_run.specs.declared.work.Aim.{Aim}
+use Rattle.upkeep_run.specs.declared.work.Aim.TheVariants.{Merging}
+use Rattle.upkeep_run.specs.declared.work.Place.{Place as WorkerPlace}
 use Rattle.node_run.specs.declared.drive.DriveNode.{DriveNode}
-use Rattle.node_run.specs.Lines.{outcome_text}
-use Rattle.node_run.specs.Node.{Line, At, Assign, StepIndexer, RestartIndexer, RestartClient, StepCollector, RestartCollector, RestartNode, Open, StepClient, at_said, assigned, indexer_busy, indexer_down, indexer_restarted, client_restarted, collector_down, collector_restarted, node_restarted, request_opened, request_busy, client_said, client_down}
+use Rattle.node_run.specs.Lines.{outcome_text, worker_word}
+use Rattle.node_run.specs.Node.{Line, At, Assign, StepIndexer, RestartIndexer, RestartClient, StepMerger, RestartMerger, StepCollector, RestartCollector, RestartNode, Open, StepClient, at_said, assigned, indexer_busy, indexer_down, indexer_restarted, client_restarted, worker_down, worker_restarted, collector_down, collector_restarted, node_restarted, request_opened, request_busy, client_said, client_down}
 
 -- ---- a world through which one actor acts after the other
 
@@ -82,6 +88,22 @@ pub record PrintsIndexer {L : Type 0} (tells : L → Option Log) (count : L → 
   pub ends : EndsAlone tells count reader (Ok outcome) after old new
   pub printed : out ≡ said_text indexer outcome
 
+-- ---- a worker's step
+
+-- a merger's step through a world alone ended so
+abbrev pub MergesAlone : WorkerPlace → Result Worked AllocError → WorkerPlace → Keeping → Keeping → Type 0
+MergesAlone before result after old new = worker_ends.EndsStep (λ (world : Keeping). world.told) config_kept (λ (was : Keeping) call (now : Keeping). IsAnswer call was now) before result after old new
+
+-- the words of an outcome behind the worker's name
+abbrev pub worked_text : Aim → Worked → List ℕ
+worked_text aim outcome = words (worker_word aim ∷ worked_words outcome)
+
+-- The merger took a step, and its outcome is told.
+pub record PrintsMerger (before after : WorkerPlace) (old new : Keeping) (out : List ℕ) : Type 0 where
+  pub outcome : Worked
+  pub ends : MergesAlone before (Ok outcome) after old new
+  pub printed : out ≡ worked_text Merging outcome
+
 -- ---- a step of the collector
 
 abbrev pub collected_text : Collected → List ℕ
@@ -128,6 +150,9 @@ PrintsLine tells count (StepIndexer indexer) old new out =
     MatchBool old.down (out ≡ outcome_text (indexer_down indexer)) (PrintsIndexer tells count indexer old.indexers.items new.indexers.items old.gate.world new.gate.world out)
 PrintsLine tells count (RestartIndexer indexer) old new out = out ≡ outcome_text (indexer_restarted indexer)
 PrintsLine tells count (RestartClient name) old new out = out ≡ outcome_text (client_restarted name)
+PrintsLine tells count StepMerger old new out =
+    MatchBool old.down (out ≡ outcome_text (worker_down Merging)) (PrintsMerger old.merger.place new.merger.place old.gate.world new.gate.world out)
+PrintsLine tells count RestartMerger old new out = out ≡ outcome_text (worker_restarted Merging)
 PrintsLine tells count StepCollector old new out = MatchBool old.down (out ≡ outcome_text collector_down) (PrintsCollector old.gate new.gate out)
 PrintsLine tells count RestartCollector old new out = out ≡ outcome_text collector_restarted
 PrintsLine tells count RestartNode old new out = PrintsRestart old.gate.world new.gate.world new.down out

@@ -12,13 +12,18 @@ use Rattle.indexing_run.specs.declared.indexer.Indexer.{Indexer as Reader}
 use Rattle.root_search.specs.Steps.{Client}
 use Rattle.root_search.specs.Searching.{SearcherStands}
 use Rattle.root_search.specs.declared.searcher.Searcher.{Searcher}
+use Rattle.upkeep_run.specs.Places.{Place as Worker}
+use Rattle.upkeep_run.specs.Places as workers
+use Rattle.upkeep_run.specs.Standing.{PlaceStands}
+use Rattle.upkeep_run.specs.declared.work.Aim.TheVariants.{Merging}
+use Rattle.upkeep_run.specs.declared.work.Place.{Place as WorkerPlace}
 use Rattle.node_run.specs.declared.drive.Accepts.{Accepts}
 use Rattle.node_run.specs.declared.drive.Accepts.TheVariants as accepts
 use Rattle.node_run.specs.declared.drive.DriveNode.{DriveNode}
 use Rattle.node_run.specs.declared.out_line.OutLine.{OutLine}
 use Rattle.node_run.specs.Lines.{outcome_text}
 use Rattle.node_run.specs.Named.{names_of, HasPlaces}
-use Rattle.node_run.specs.Node.{Node, Line, At, Assign, StepIndexer, RestartIndexer, RestartClient, StepCollector, RestartCollector, RestartNode, Open, StepClient, Outcome}
+use Rattle.node_run.specs.Node.{Node, Line, At, Assign, StepIndexer, RestartIndexer, RestartClient, StepMerger, RestartMerger, StepCollector, RestartCollector, RestartNode, Open, StepClient, Outcome}
 use Rattle.node_run.specs.Telling.{LineMayTell}
 use Rattle.node_run.specs.Turns.{Luck, Turn, Turned, turned, full_turn, reader_of}
 
@@ -30,15 +35,21 @@ abbrev pub AllApart : List Indexer → Type 0
 AllApart [] = Unit {0}
 AllApart (indexer ∷ indexers) = AllByRecursion (HoldApart indexer) indexers × AllApart indexers
 
+-- a worker holds no indexer's number
+abbrev pub HoldsOther : Worker → Indexer → Type 0
+HoldsOther worker indexer = (number : ℕ) → workers.number_held worker ≡ Some number → number_held indexer.place ≡ Some number → ⊥
+
 -- The parts of a node of the code stand for this one. `firsts` are its logs as they were handed in.
 pub record PartsStand {L : Type 0} (told : L → Option Log) (count : L → ℕ) (since : L → L → Type 0) (firsts : List L)
-    (world : Keeping) (readers : List (Reader L)) (searchers : List Searcher) (places : List (List ℕ × ℕ)) (clock : ℕ) (is_down : Bool) (node : Node) : Type 0 where
+    (world : Keeping) (readers : List (Reader L)) (merger : WorkerPlace) (searchers : List Searcher) (places : List (List ℕ × ℕ)) (clock : ℕ) (is_down : Bool) (node : Node) : Type 0 where
   pub world_stands : WorldStands world node.core node.log
   pub is_log : IsLog node.log
   pub moment : clock ≡ node.core.clock
   pub down : is_down ≡ node.down
   pub indexers : AllZip (λ reader indexer. IndexerStands told count reader indexer node.core node.log) readers node.indexers
   pub apart : AllApart node.indexers
+  pub merging : PlaceStands Merging node.log node.core merger node.merger
+  pub merger_apart : AllByRecursion (HoldsOther node.merger) node.indexers
   -- in the order in which lines named them
   pub clients : AllZip (λ searcher client. SearcherStands searcher client node.core node.log) searchers node.clients
   pub placed : HasPlaces places (names_of node.clients)
@@ -52,13 +63,13 @@ IsFresh told count log reader =
 -- a node of the code stands for this one
 abbrev pub NodeStands : {S L : Type 0} → (L → Option Log) → (L → ℕ) → (L → L → Type 0) → List L → DriveNode S L → Node → Type 0
 NodeStands {S} {L} told count since firsts drive node =
-    PartsStand told count since firsts drive.gate.world drive.indexers.items drive.clients.items drive.places.entries drive.moment drive.down node
+    PartsStand told count since firsts drive.gate.world drive.indexers.items drive.merger.place drive.clients.items drive.places.entries drive.moment drive.down node
 
 -- ---- start
 
 -- a node of fresh readers over an opened world
 abbrev pub fresh_node : Core → Log → List ℕ → Node
-fresh_node core log counts = record { log = log; core = core; down = false; indexers = map reader_of counts; clients = [] }
+fresh_node core log counts = record { log = log; core = core; down = false; indexers = map reader_of counts; merger = workers.idle; clients = [] }
 
 -- ---- accepts
 
@@ -82,6 +93,8 @@ accepts_of node (Assign i names) = accepts_indexer i node
 accepts_of node (StepIndexer i) = accepts_indexer i node
 accepts_of node (RestartIndexer i) = accepts_indexer i node
 accepts_of node (RestartClient name) = accepts_client name node
+accepts_of node StepMerger = accepts.Yes
+accepts_of node RestartMerger = accepts.Yes
 accepts_of node StepCollector = accepts.Yes
 accepts_of node RestartCollector = accepts.Yes
 accepts_of node RestartNode = accepts.Yes
@@ -104,7 +117,7 @@ pub record DoesLine {S L : Type 0} (told : L → Option Log) (count : L → ℕ)
   pub last : Node
   pub turn : Turn node line outcome last
   pub says : IsSaid result outcome
-  -- no key is foreign, and what fails but for an indexer's entry is the store
+  -- no key is foreign, and what fails but for an entry, or a fetch that comes too late, is the store
   pub tells : LineMayTell outcome
   pub stands : NodeStands told count since firsts new last
 

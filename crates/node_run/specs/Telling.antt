@@ -1,5 +1,5 @@
--- Which faults a node over a sound index tells: no key is foreign to it, only an entry of an indexer or of the collector meets a full
--- journal, only one of an indexer is refused, and only a search comes too late.
+-- Which faults a node over a sound index tells: no key is foreign to it, only an entry of an indexer, of a worker or of the collector meets
+-- a full journal, only one of an indexer or of a worker is refused, and only a search or a worker comes too late.
 use Rattle.std.specs.Prelude.{Option, Some, None}
 use Rattle.index_world.specs.Calls.{Fault, store_fault, is_foreign, is_full, is_expired}
 use Rattle.indexing_run.specs.Outcomes.{IndexerOutcome}
@@ -12,7 +12,11 @@ use Rattle.search_api.specs.declared.reply.Said.{Said}
 use Rattle.search_api.specs.declared.reply.Said.TheVariants.{Found, Deleted, Refused}
 use Rattle.split_collector.specs.Outcomes.{Outcome as CollectorOutcome}
 use Rattle.split_collector.specs.Outcomes as collecting
-use Rattle.node_run.specs.Node.{NodeFault, world_fault, no_index, Outcome, at_said, assigned, indexer_busy, indexer_said, indexer_down, indexer_restarted, client_restarted, collector_said, collector_down, collector_restarted, node_restarted, node_failed, request_opened, request_busy, client_said, client_down}
+use Rattle.upkeep_run.specs.Outcomes.{UpkeepOutcome}
+use Rattle.upkeep_run.specs.Outcomes as working
+use Rattle.upkeep_run.specs.declared.work.Aim.{Aim}
+use Rattle.upkeep_run.specs.declared.work.Aim.TheVariants.{Merging, Deleting}
+use Rattle.node_run.specs.Node.{NodeFault, world_fault, no_index, Outcome, at_said, assigned, indexer_busy, indexer_said, indexer_down, indexer_restarted, client_restarted, worker_said, worker_down, worker_restarted, collector_said, collector_down, collector_restarted, node_restarted, node_failed, request_opened, request_busy, client_said, client_down}
 
 -- the store failed
 abbrev pub IsOfStore : Fault → Type 0
@@ -39,6 +43,30 @@ IndexerMayTell (indexing.Lost number refusal) = Unit {0}
 IndexerMayTell (indexing.Refused refusal) = Unit {0}
 IndexerMayTell (indexing.SourceFault before after) = Unit {0}
 IndexerMayTell (indexing.Faulted fault) = IsNotForeign fault
+
+-- A worker's entry may meet a full journal, and its fetch come too late.
+abbrev pub IsOfWork : Fault → Type 0
+IsOfWork (store_fault before after) = Unit {0}
+IsOfWork (is_foreign key) = ⊥
+IsOfWork is_full = Unit {0}
+IsOfWork (is_expired planned_at now) = Unit {0}
+
+-- a merger makes a new row in each case
+abbrev pub MayRaise : Aim → Type 0
+MayRaise Merging = ⊥
+MayRaise Deleting = Unit {0}
+
+abbrev pub WorkerMayTell : Aim → UpkeepOutcome → Type 0
+WorkerMayTell aim working.Nothing = Unit {0}
+WorkerMayTell aim (working.Planned count) = Unit {0}
+WorkerMayTell aim (working.Fetched number) = Unit {0}
+WorkerMayTell aim (working.Staged number) = Unit {0}
+WorkerMayTell aim (working.Uploaded number) = Unit {0}
+WorkerMayTell aim (working.Replaced number) = Unit {0}
+WorkerMayTell aim (working.Raised number) = MayRaise aim
+WorkerMayTell aim (working.Lost number refusal) = Unit {0}
+WorkerMayTell aim (working.Refused refusal) = Unit {0}
+WorkerMayTell aim (working.Faulted fault) = IsOfWork fault
 
 -- no key is foreign, and none of its own entries is refused
 abbrev pub CollectorMayTell : CollectorOutcome → Type 0
@@ -105,6 +133,9 @@ MayTell (indexer_said indexer outcome) = IndexerMayTell outcome
 MayTell (indexer_down indexer) = Unit {0}
 MayTell (indexer_restarted indexer) = Unit {0}
 MayTell (client_restarted name) = Unit {0}
+MayTell (worker_said aim outcome) = WorkerMayTell aim outcome
+MayTell (worker_down aim) = Unit {0}
+MayTell (worker_restarted aim) = Unit {0}
 MayTell (collector_said outcome) = CollectorMayTell outcome
 MayTell collector_down = Unit {0}
 MayTell collector_restarted = Unit {0}

@@ -14,7 +14,13 @@ use Rattle.root_search.specs.Steps as searching
 use Rattle.root_search.specs.declared.outcome.SearchStep.{SearchStep}
 use Rattle.split_collector.specs.Outcomes.{Outcome as CollectorOutcome}
 use Rattle.split_collector.specs.Steps as collecting
-use Rattle.node_run.specs.Node.{Node, Line, At, Assign, StepIndexer, RestartIndexer, RestartClient, StepCollector, RestartCollector, RestartNode, Open, StepClient, world_fault, no_index, Outcome, at_said, assigned, indexer_busy, indexer_said, indexer_down, indexer_restarted, client_restarted, collector_said, collector_down, collector_restarted, node_restarted, node_failed, request_opened, request_busy, client_said, client_down}
+use Rattle.upkeep_run.specs.Outcomes.{UpkeepOutcome}
+use Rattle.upkeep_run.specs.Places.{Place as Worker}
+use Rattle.upkeep_run.specs.Places as workers
+use Rattle.upkeep_run.specs.Steps as working
+use Rattle.upkeep_run.specs.declared.work.Aim.{Aim}
+use Rattle.upkeep_run.specs.declared.work.Aim.TheVariants.{Merging}
+use Rattle.node_run.specs.Node.{Node, Line, At, Assign, StepIndexer, RestartIndexer, RestartClient, StepMerger, RestartMerger, StepCollector, RestartCollector, RestartNode, Open, StepClient, world_fault, no_index, Outcome, at_said, assigned, indexer_busy, indexer_said, indexer_down, indexer_restarted, client_restarted, worker_said, worker_down, worker_restarted, collector_said, collector_down, collector_restarted, node_restarted, node_failed, request_opened, request_busy, client_said, client_down}
 
 -- The fate of one line: its call of a log, its call of the world, a client's or the collector's further calls if it makes some, where the
 -- pages end that the collector lists, and whether memory is missing: in its actor's own step, before the line does anything, or behind all
@@ -124,6 +130,31 @@ client_turn_by false luck name node =
 abbrev pub client_turn : Luck → List ℕ → Node → Turned
 client_turn luck name node = client_turn_by node.down luck name node
 
+-- ---- a merger, and each worker
+
+abbrev pub working_luck : Luck → working.Luck
+working_luck luck = record { world = luck.world; short = luck.inner }
+
+abbrev pub said_by_worker : Aim → Option UpkeepOutcome → Option Outcome
+said_by_worker aim None = None
+said_by_worker aim (Some outcome) = Some (worker_said aim outcome)
+
+-- where a worker is behind its step is kept in the node
+abbrev pub worker_stepped : Aim → (Worker → Node → Node) → Node → working.Stepped → Turned
+worker_stepped aim keep node step = record { said = said_by_worker aim step.outcome; node = record (keep step.place node) { core = step.core } }
+
+abbrev pub worker_turn_by : Bool → Aim → Worker → (Worker → Node → Node) → Luck → Node → Turned
+worker_turn_by true aim worker keep luck node = turned (worker_down aim) node
+worker_turn_by false aim worker keep luck node = worker_stepped aim keep node (working.step_worker aim (working_luck luck) node.log worker node.core)
+
+abbrev pub with_merger : Worker → Node → Node
+with_merger worker node = record node { merger = worker }
+
+abbrev pub merger_turn : Luck → Node → Turned
+merger_turn luck node = worker_turn_by node.down Merging node.merger with_merger luck node
+
+-- ---- the collector
+
 abbrev pub collecting_luck : Luck → collecting.Luck
 collecting_luck luck = record { world = luck.world; more = luck.more; ends = luck.ends; short = luck.inner }
 
@@ -141,6 +172,8 @@ collector_turn_by false luck node = collector_stepped node (collecting.step_coll
 abbrev pub collector_turn : Luck → Node → Turned
 collector_turn luck node = collector_turn_by node.down luck node
 
+-- ---- a request, and a restart of all
+
 abbrev pub open_by : Request → List ℕ → List ℕ → Client → Node → Turned
 open_by no_request name text client node = turned (request_opened name) (keep_client (record client { request = opened text }) node)
 open_by (opened other) name text client node = turned (request_busy name) node
@@ -154,6 +187,7 @@ abbrev pub restarted : Node → Node
 restarted node =
     record node {
       indexers = map made_idle node.indexers;
+      merger = workers.idle;
       clients = map without_request node.clients;
     }
 
@@ -179,6 +213,8 @@ full_turn luck node (Assign i names) = assign_turn i names (indexer_at node.inde
 full_turn luck node (StepIndexer i) = indexer_turn luck i node
 full_turn luck node (RestartIndexer i) = turned (indexer_restarted i) (with_indexer i (made_idle (indexer_at node.indexers i)) node)
 full_turn luck node (RestartClient name) = turned (client_restarted name) (keep_client (without_request (client_named name node.clients)) node)
+full_turn luck node StepMerger = merger_turn luck node
+full_turn luck node RestartMerger = turned (worker_restarted Merging) (with_merger workers.idle node)
 full_turn luck node StepCollector = collector_turn luck node
 full_turn luck node RestartCollector = turned collector_restarted node
 full_turn luck node RestartNode = restart_turn luck node
@@ -201,6 +237,8 @@ quiet (Assign i names) node = with_indexer i (made_idle (indexer_at node.indexer
 quiet (StepIndexer i) node = with_indexer i (made_idle (indexer_at node.indexers i)) node
 quiet (RestartIndexer i) node = with_indexer i (made_idle (indexer_at node.indexers i)) node
 quiet (RestartClient name) node = drop_request name node
+quiet StepMerger node = with_merger workers.idle node
+quiet RestartMerger node = with_merger workers.idle node
 quiet StepCollector node = node
 quiet RestartCollector node = node
 quiet RestartNode node = stopped node.core node
@@ -300,4 +338,4 @@ opened_core o =
 
 abbrev pub opened_node : Opening → Node
 opened_node o =
-    record { log = o.log; core = opened_core o; down = false; indexers = map reader_of o.log_faults; clients = [] }
+    record { log = o.log; core = opened_core o; down = false; indexers = map reader_of o.log_faults; merger = workers.idle; clients = [] }

@@ -14,7 +14,10 @@ ghost use Rattle.root_search.specs.Searching.{SearcherStands};
 ghost use Rattle.root_search.specs.Steps.{Client as Asker, without_request};
 ghost use Rattle.split_collector.specs.Ending.{CallsTo};
 ghost use Rattle.split_collector.specs.Turns.{ended, to_mark};
-ghost use Rattle.node_run.specs.Alone.{CollectsAlone, SearchesAlone, StepsAlone};
+ghost use Rattle.upkeep_run.specs.Places.{Place as Worker};
+ghost use Rattle.upkeep_run.specs.Standing.{PlaceStands};
+ghost use Rattle.upkeep_run.specs.declared.work.Aim.TheVariants.{Merging};
+ghost use Rattle.node_run.specs.Alone.{CollectsAlone, SearchesAlone, StepsAlone, WorksAlone};
 ghost use Rattle.node_run.specs.Calm.{log_counts};
 ghost use Rattle.node_run.specs.Fitting.{IsNumbered, IsYes};
 ghost use Rattle.node_run.specs.Lines.{IsWellFormed, AreNames, outcome_text};
@@ -22,7 +25,7 @@ ghost use Rattle.node_run.specs.Logs.{logs_in};
 ghost use Rattle.node_run.specs.Named.{place_in, names_of, HasPlaces, IsKnown};
 ghost use Rattle.node_run.specs.Node.{Node};
 ghost use Rattle.node_run.specs.Node as said;
-ghost use Rattle.node_run.specs.Printing.{AnswersAlone, fault_text, EndsAlone, told_alone, TellsSearch, HasMore, PrintsLine};
+ghost use Rattle.node_run.specs.Printing.{AnswersAlone, fault_text, EndsAlone, MergesAlone, told_alone, TellsSearch, HasMore, PrintsLine};
 ghost use Rattle.node_run.specs.Seen.{seen};
 ghost use Rattle.node_run.specs.Standing.{NodeStands, IsFresh, fresh_node, accepts_of, accepts_client, accepts_indexer, DoesLine, DoesMost, LetGo, GivesLogs, GivesStore};
 ghost use Rattle.node_run.specs.Turns.{made_idle, quiet, stopped};
@@ -43,16 +46,18 @@ use std::alloc::{AllocError, Global};
 use std::collections::BTreeMap;
 use std::mem;
 use std::thread::Threads;
+use upkeep_run::{Merger, UpkeepOutcome};
 
 /// How many clients an input may name.
 pub const MAX_CLIENTS: u64 = 10_000;
 
 const MOMENT_END: u64 = 1 << 62;
 
-/// A node: a world, one indexer for each log, and one searcher for each client that a line named.
+/// A node: a world, one indexer for each log, a merger, a collector, and one searcher for each client that a line named.
 pub struct DriveNode<S: ObjectStore, L: SourceLog> {
     gate: Direct<S, ScriptClock>,
     indexers: Vec<Indexer<L>>,
+    merger: Merger,
     collector: Collector,
     clients: Vec<Searcher>,
     // The place of each client among the searchers.
@@ -92,6 +97,19 @@ fn step_indexer<S: ObjectStore, L: SourceLog>(
     ensures ends { EndsAlone L.told L.fault_count indexer.old result indexer.new gate.old.world gate.new.world }
 {
     indexer.step(alloc, gate)
+}
+
+fn step_merger<S: ObjectStore>(
+    alloc: Global,
+    gate: &mut Direct<S, ScriptClock>,
+    merger: &mut Merger,
+) -> Result<UpkeepOutcome, AllocError>
+    ensures step { (worker : Worker) (core : Core) (log : Log) → IsLog log → PlaceStands Merging log core merger.old.place worker → WorldStands gate.old.world core log →
+        WorksAlone Merging result worker core log merger.new.place gate.new.world }
+    // Whatever the world is.
+    ensures ends { MergesAlone merger.old.place result merger.new.place gate.old.world gate.new.world }
+{
+    merger.step(alloc, gate)
 }
 
 fn step_collector<S: ObjectStore>(
@@ -277,6 +295,7 @@ impl<S: ObjectStore, L: SourceLog> DriveNode<S, L> {
         Ok(DriveNode {
             gate: Direct::over(world),
             indexers,
+            merger: Merger::start(),
             collector: Collector::start(),
             clients: Vec::new(alloc),
             places: BTreeMap::new(alloc),
@@ -297,6 +316,7 @@ impl<S: ObjectStore, L: SourceLog> DriveNode<S, L> {
         let DriveNode {
             gate,
             indexers,
+            merger: _,
             collector: _,
             clients: _,
             places: _,
@@ -360,6 +380,8 @@ impl<S: ObjectStore, L: SourceLog> DriveNode<S, L> {
             Line::Indexer { indexer } => self.accepts_indexer(*indexer),
             Line::RestartIndexer { indexer } => self.accepts_indexer(*indexer),
             Line::RestartClient { client } => self.accepts_client(client),
+            Line::Merger => Accepts::Yes,
+            Line::RestartMerger => Accepts::Yes,
             Line::Collector => Accepts::Yes,
             Line::RestartCollector => Accepts::Yes,
             Line::RestartNode => Accepts::Yes,
@@ -376,6 +398,7 @@ impl<S: ObjectStore, L: SourceLog> DriveNode<S, L> {
         ensures does { (firsts : List L) (node : Node) → NodeStands L.told L.fault_count L.since firsts self.old node → NodeStands L.told L.fault_count L.since firsts self.new (stopped node.core node) }
     {
         restart_indexers(self.indexers.as_mut_slice());
+        self.merger.restart();
         restart_clients(self.clients.as_mut_slice());
         self.down = true;
     }
@@ -412,6 +435,33 @@ impl<S: ObjectStore, L: SourceLog> DriveNode<S, L> {
         let line = OutLine::indexer(alloc, number, &outcome);
         mem::drop(outcome);
         line
+    }
+
+    fn merger_line(&mut self, alloc: Global) -> Result<OutLine, AllocError>
+        ensures count { vec_len self.new.indexers ≡ vec_len self.old.indexers }
+        ensures does { (firsts : List L) (node : Node) → NodeStands L.told L.fault_count L.since firsts self.old node →
+            DoesMost L.told L.fault_count L.since firsts node said.StepMerger result self.new }
+        // Whatever the node is.
+        ensures prints { IfOk result (λ out. PrintsLine L.told L.fault_count said.StepMerger self.old self.new out.bytes) }
+    {
+        if self.down {
+            return OutLine::merger_down(alloc);
+        }
+        let outcome = step_merger(alloc, &mut self.gate, &mut self.merger)?;
+        let line = OutLine::merger(alloc, &outcome);
+        mem::drop(outcome);
+        line
+    }
+
+    fn restart_merger(&mut self, alloc: Global) -> Result<OutLine, AllocError>
+        ensures count { vec_len self.new.indexers ≡ vec_len self.old.indexers }
+        ensures does { (firsts : List L) (node : Node) → NodeStands L.told L.fault_count L.since firsts self.old node →
+            DoesMost L.told L.fault_count L.since firsts node said.RestartMerger result self.new }
+        // Whatever the node is.
+        ensures prints { IfOk result (λ out. PrintsLine L.told L.fault_count said.RestartMerger self.old self.new out.bytes) }
+    {
+        self.merger.restart();
+        OutLine::merger_restarted(alloc)
     }
 
     fn collector_line(&mut self, alloc: Global) -> Result<OutLine, AllocError>
@@ -560,6 +610,8 @@ impl<S: ObjectStore, L: SourceLog> DriveNode<S, L> {
             Line::Indexer { indexer } => self.indexer_line(alloc, *indexer),
             Line::RestartIndexer { indexer } => self.restart_indexer(alloc, *indexer),
             Line::RestartClient { client } => self.restart_client(alloc, client),
+            Line::Merger => self.merger_line(alloc),
+            Line::RestartMerger => self.restart_merger(alloc),
             Line::Collector => self.collector_line(alloc),
             Line::RestartCollector => self.restart_collector(alloc),
             Line::RestartNode => self.restart_node(alloc),
@@ -586,6 +638,12 @@ impl<S: ObjectStore, L: SourceLog> DriveNode<S, L> {
         }
     }
 
+    fn quiet_merger(&mut self)
+        ensures { (firsts : List L) (node : Node) → NodeStands L.told L.fault_count L.since firsts self.old node → NodeStands L.told L.fault_count L.since firsts self.new (quiet said.RestartMerger node) }
+    {
+        self.merger.restart();
+    }
+
     // The line's actor is idle and its request is dropped.
     fn quiet(&mut self, line: &Line)
         requires { IsNumbered line.now (vec_len self.old.indexers) }
@@ -597,6 +655,8 @@ impl<S: ObjectStore, L: SourceLog> DriveNode<S, L> {
             Line::Indexer { indexer } => self.quiet_indexer(*indexer),
             Line::RestartIndexer { indexer } => self.quiet_indexer(*indexer),
             Line::RestartClient { client } => self.quiet_client(client),
+            Line::Merger => self.quiet_merger(),
+            Line::RestartMerger => self.quiet_merger(),
             Line::Collector => {}
             Line::RestartCollector => {}
             Line::RestartNode => self.stop(),

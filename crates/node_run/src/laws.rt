@@ -12,10 +12,14 @@ ghost use Rattle.root_search.specs.Steps.{Client, step_client};
 ghost use Rattle.root_search.specs.Steps as searching;
 ghost use Rattle.split_collector.specs.Steps.{step_collector};
 ghost use Rattle.split_collector.specs.Steps as collecting;
+ghost use Rattle.upkeep_run.specs.Places.{Place as Worker};
+ghost use Rattle.upkeep_run.specs.Steps.{step_worker};
+ghost use Rattle.upkeep_run.specs.Steps as working;
+ghost use Rattle.upkeep_run.specs.declared.work.Aim.{Aim};
 ghost use Rattle.node_run.specs.Lines.{Spells};
 ghost use Rattle.node_run.specs.Node.{Node, Line, Outcome};
 ghost use Rattle.node_run.specs.Calm.{IsStill, log_counts, IsOfThese};
-ghost use Rattle.node_run.specs.Turns.{Turn, Turns, turns, calm, collecting_luck, indexing_luck, searching_luck};
+ghost use Rattle.node_run.specs.Turns.{Turn, Turns, turns, calm, collecting_luck, indexing_luck, searching_luck, working_luck};
 
 /// A line adds to the history at its end, whatever it says.
 pub fn line_adds_to_the_history()
@@ -61,6 +65,14 @@ pub fn a_still_count_makes_a_search_step_calm()
         (step_client luck log client core).core.store_faults ≡ core.store_faults →
         ((step_client luck log client core).outcome ≡ None)
         ⊎ (step_client luck log client core ≡ step_client (searching_luck calm) log client core) }
+{}
+
+/// So is a step of a worker.
+pub fn a_still_count_makes_a_worker_step_calm()
+    ensures { (aim : Aim) (luck : working.Luck) (log : Log) (worker : Worker) (core : Core) → IsStill core →
+        (step_worker aim luck log worker core).core.store_faults ≡ core.store_faults →
+        ((step_worker aim luck log worker core).outcome ≡ None)
+        ⊎ (step_worker aim luck log worker core ≡ step_worker aim (working_luck calm) log worker core) }
 {}
 
 /// So is a step of the collector, wherever its pages end, over numbers that a key can spell.

@@ -42,6 +42,9 @@ pub enum Line {
     RestartClient {
         client: Client,
     },
+    /// A step of the merger.
+    Merger,
+    RestartMerger,
     /// A step of the collector.
     Collector,
     RestartCollector,
@@ -178,6 +181,9 @@ fn restart_line(rest: &[u8]) -> Result<Line, LineError>
     if rest == b"node".as_slice() {
         return Ok(Line::RestartNode);
     }
+    if rest == b"merger".as_slice() {
+        return Ok(Line::RestartMerger);
+    }
     if rest == b"collector".as_slice() {
         return Ok(Line::RestartCollector);
     }
@@ -214,6 +220,9 @@ pub fn read_line(alloc: Global, bytes: &[u8]) -> Result<Line, LineError>
     }
     if let Some(rest) = behind(bytes, b"client ") {
         return client_line(alloc, rest);
+    }
+    if bytes == b"merger".as_slice() {
+        return Ok(Line::Merger);
     }
     if bytes == b"collector".as_slice() {
         return Ok(Line::Collector);

@@ -7,9 +7,12 @@ ghost use Rattle.indexing_run.specs.Outcomes as indexing;
 ghost use Rattle.indexing_run.specs.Standing.{IsSaid};
 ghost use Rattle.split_collector.specs.Outcomes as collecting;
 ghost use Rattle.split_collector.specs.Standing.{IsSaid as IsCollected};
+ghost use Rattle.upkeep_run.specs.Outcomes as working;
+ghost use Rattle.upkeep_run.specs.Standing.{IsSaid as IsWorked};
+ghost use Rattle.upkeep_run.specs.declared.work.Aim.TheVariants.{Merging};
 ghost use Rattle.node_run.specs.Lines.{outcome_text};
 ghost use Rattle.node_run.specs.Node as said;
-ghost use Rattle.node_run.specs.Printing.{collected_text, fault_text, said_text};
+ghost use Rattle.node_run.specs.Printing.{collected_text, fault_text, said_text, worked_text};
 
 use byte_fields::{Bytes, Client};
 use index_world::{WorldError, put_fault, put_number, put_word};
@@ -17,21 +20,12 @@ use indexing_run::IndexerOutcome;
 use root_search::SearchStep;
 use split_collector::CollectorOutcome;
 use std::alloc::{AllocError, Global};
+use upkeep_run::UpkeepOutcome;
 
 /// The printed answer to a line, without a line feed.
 #[derive(Drop)]
 pub struct OutLine {
     pub bytes: Bytes,
-}
-
-// A client's name and a text behind a blank.
-fn named(alloc: Global, client: &Client, text: &[u8]) -> Result<OutLine, AllocError>
-    ensures { IfOk result (λ out. out.bytes ≡ client.now ++ 32 ∷ text.now) }
-{
-    let mut bytes = Bytes::from_slice(alloc, client.as_bytes())?;
-    bytes.push(b' ')?;
-    bytes.append(text)?;
-    Ok(OutLine { bytes })
 }
 
 // `indexer`, its number and a text.
@@ -45,14 +39,35 @@ fn of_indexer(alloc: Global, number: u64, text: &[u8]) -> Result<OutLine, AllocE
     Ok(OutLine { bytes })
 }
 
+// A word and a text.
+fn behind_word(alloc: Global, word: &[u8], text: &[u8]) -> Result<OutLine, AllocError>
+    ensures { IfOk result (λ out. out.bytes ≡ word.now ++ 32 ∷ text.now) }
+{
+    let mut bytes = Bytes::from_slice(alloc, word)?;
+    bytes.push(b' ')?;
+    bytes.append(text)?;
+    Ok(OutLine { bytes })
+}
+
+// A client's name and a text.
+fn named(alloc: Global, client: &Client, text: &[u8]) -> Result<OutLine, AllocError>
+    ensures { IfOk result (λ out. out.bytes ≡ client.now ++ 32 ∷ text.now) }
+{
+    behind_word(alloc, client.as_bytes(), text)
+}
+
+// `merger` and a text.
+fn of_merger(alloc: Global, text: &[u8]) -> Result<OutLine, AllocError>
+    ensures { IfOk result (λ out. out.bytes ≡ codes "merger" ++ 32 ∷ text.now) }
+{
+    behind_word(alloc, b"merger", text)
+}
+
 // `collector` and a text.
 fn of_collector(alloc: Global, text: &[u8]) -> Result<OutLine, AllocError>
     ensures { IfOk result (λ out. out.bytes ≡ codes "collector" ++ 32 ∷ text.now) }
 {
-    let mut bytes = Bytes::vacant(alloc);
-    put_word(&mut bytes, b"collector")?;
-    put_word(&mut bytes, text)?;
-    Ok(OutLine { bytes })
+    behind_word(alloc, b"collector", text)
 }
 
 impl OutLine {
@@ -142,6 +157,28 @@ impl OutLine {
             SearchStep::Replied(_) => Ok(OutLine { bytes: words }),
             _ => named(alloc, client, words.as_slice()),
         }
+    }
+
+    pub fn merger(alloc: Global, outcome: &UpkeepOutcome) -> Result<OutLine, AllocError>
+        ensures said { (answer : working.UpkeepOutcome) → IsWorked outcome.now answer →
+            IfOk result (λ out. out.bytes ≡ outcome_text (said.worker_said Merging answer)) }
+        // Whatever the outcome is.
+        ensures exact { IfOk result (λ out. out.bytes ≡ worked_text Merging outcome.now) }
+    {
+        let words = upkeep_run::print_outcome(alloc, outcome)?;
+        of_merger(alloc, words.as_slice())
+    }
+
+    pub fn merger_down(alloc: Global) -> Result<OutLine, AllocError>
+        ensures { IfOk result (λ out. out.bytes ≡ outcome_text (said.worker_down Merging)) }
+    {
+        of_merger(alloc, b"down")
+    }
+
+    pub fn merger_restarted(alloc: Global) -> Result<OutLine, AllocError>
+        ensures { IfOk result (λ out. out.bytes ≡ outcome_text (said.worker_restarted Merging)) }
+    {
+        of_merger(alloc, b"restarted")
     }
 
     pub fn collector(alloc: Global, outcome: &CollectorOutcome) -> Result<OutLine, AllocError>

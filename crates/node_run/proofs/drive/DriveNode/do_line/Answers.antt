@@ -32,6 +32,16 @@ returns-in-RestartClient-clause-does g c = λ firsts node s f.
     subst (λ (l : Line). DoesMost g.L.SourceLog.told g.L.SourceLog.fault_count g.L.SourceLog.since firsts node (seen l) c.restart_client.result c.restart_client.new.self) (sym c.in-RestartClient.is)
     (c.restart_client.ensures.does firsts node s)
 
+pub returns-in-Merger-clause-does : goal.returns-in-Merger-clause-does
+returns-in-Merger-clause-does g c = λ firsts node s f.
+    subst (λ (l : Line). DoesMost g.L.SourceLog.told g.L.SourceLog.fault_count g.L.SourceLog.since firsts node (seen l) c.merger_line.result c.merger_line.new.self) (sym c.in-Merger.is)
+    (c.merger_line.ensures.does firsts node s)
+
+pub returns-in-RestartMerger-clause-does : goal.returns-in-RestartMerger-clause-does
+returns-in-RestartMerger-clause-does g c = λ firsts node s f.
+    subst (λ (l : Line). DoesMost g.L.SourceLog.told g.L.SourceLog.fault_count g.L.SourceLog.since firsts node (seen l) c.restart_merger.result c.restart_merger.new.self) (sym c.in-RestartMerger.is)
+    (c.restart_merger.ensures.does firsts node s)
+
 pub returns-in-Collector-clause-does : goal.returns-in-Collector-clause-does
 returns-in-Collector-clause-does g c = λ firsts node s f.
     subst (λ (l : Line). DoesMost g.L.SourceLog.told g.L.SourceLog.fault_count g.L.SourceLog.since firsts node (seen l) c.collector_line.result c.collector_line.new.self) (sym c.in-Collector.is)
@@ -71,6 +81,14 @@ returns-in-RestartIndexer-clause-prints g c =
 pub returns-in-RestartClient-clause-prints : goal.returns-in-RestartClient-clause-prints
 returns-in-RestartClient-clause-prints g c =
     subst (λ (l : Line). IfOk c.restart_client.result (λ out. PrintsLine g.L.SourceLog.told g.L.SourceLog.fault_count (seen l) c.args.self.now c.restart_client.new.self out.bytes)) (sym c.in-RestartClient.is) c.restart_client.ensures.prints
+
+pub returns-in-Merger-clause-prints : goal.returns-in-Merger-clause-prints
+returns-in-Merger-clause-prints g c =
+    subst (λ (l : Line). IfOk c.merger_line.result (λ out. PrintsLine g.L.SourceLog.told g.L.SourceLog.fault_count (seen l) c.args.self.now c.merger_line.new.self out.bytes)) (sym c.in-Merger.is) c.merger_line.ensures.prints
+
+pub returns-in-RestartMerger-clause-prints : goal.returns-in-RestartMerger-clause-prints
+returns-in-RestartMerger-clause-prints g c =
+    subst (λ (l : Line). IfOk c.restart_merger.result (λ out. PrintsLine g.L.SourceLog.told g.L.SourceLog.fault_count (seen l) c.args.self.now c.restart_merger.new.self out.bytes)) (sym c.in-RestartMerger.is) c.restart_merger.ensures.prints
 
 pub returns-in-Collector-clause-prints : goal.returns-in-Collector-clause-prints
 returns-in-Collector-clause-prints g c =

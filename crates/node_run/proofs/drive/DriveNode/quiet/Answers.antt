@@ -17,6 +17,14 @@ pub returns-in-RestartClient : goal.returns-in-RestartClient
 returns-in-RestartClient g c = λ firsts node p.
     quiet_along {S = g.row.S.Denot} g.L.SourceLog.told g.L.SourceLog.fault_count g.L.SourceLog.since firsts node c.args.line.now _ c.quiet_client.new.self c.in-RestartClient.is (c.quiet_client.ensures firsts node p)
 
+pub returns-in-Merger : goal.returns-in-Merger
+returns-in-Merger g c = λ firsts node p.
+    quiet_along {S = g.row.S.Denot} g.L.SourceLog.told g.L.SourceLog.fault_count g.L.SourceLog.since firsts node c.args.line.now _ c.quiet_merger.new.self c.in-Merger.is (c.quiet_merger.ensures firsts node p)
+
+pub returns-in-RestartMerger : goal.returns-in-RestartMerger
+returns-in-RestartMerger g c = λ firsts node p.
+    quiet_along {S = g.row.S.Denot} g.L.SourceLog.told g.L.SourceLog.fault_count g.L.SourceLog.since firsts node c.args.line.now _ c.quiet_merger-in-RestartMerger.new.self c.in-RestartMerger.is (c.quiet_merger-in-RestartMerger.ensures firsts node p)
+
 pub returns-in-Collector : goal.returns-in-Collector
 returns-in-Collector g c = λ firsts node p.
     quiet_along {S = g.row.S.Denot} g.L.SourceLog.told g.L.SourceLog.fault_count g.L.SourceLog.since firsts node c.args.line.now _ c.args.self.now c.in-Collector.is p
