@@ -36,7 +36,7 @@ use Rattle.root_search.specs.Steps.{Request, no_request, opened, planned, Plan, 
 use Rattle.root_search.specs.declared.outcome.SearchStep.{SearchStep}
 use Rattle.root_search.specs.declared.outcome.SearchStep.TheVariants.{Idle, Planned, Fetched, Replied}
 use Rattle.split_collector.specs.Outcomes.{Outcome as CollectorOutcome}
-use Rattle.node_run.specs.Node.{Node, Line, At, Assign, StepIndexer, RestartIndexer, RestartClient, StepCollector, RestartCollector, RestartNode, Open, StepClient, Outcome, client_said}
+use Rattle.node_run.specs.Node.{Node, Line, At, Assign, StepIndexer, RestartIndexer, RestartClient, StepMerger, RestartMerger, StepCollector, RestartCollector, RestartNode, Open, StepClient, Outcome, client_said}
 use Rattle.node_run.specs.Telling.{IsOfText}
 use Rattle.node_run.specs.Turns as node_turns
 use Rattle.node_run.specs.Turns.{Turned, Turn, Turns, assign_at, client_named, client_turn_by, collector_turn_by, full_turn, indexer_at, indexer_turn_by, open_by, or_quiet, quiet, restart_by, said_by_client, said_by_collector, said_by_indexer, searching_luck, turn_by, with_client, with_dropped}

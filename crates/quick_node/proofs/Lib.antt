@@ -19,6 +19,7 @@ pub mod LongerLog
 pub mod UpToLast
 pub mod Onces
 pub mod Files
+mod Working
 mod EntryRows
 mod CollectorKeeps
 mod Collected
@@ -30,6 +31,7 @@ mod Caused
 mod NewIndex
 mod FaultCalls
 mod CollectorFaults
+mod WorkerFaults
 mod Faulting
 mod Telling
 mod Catching
