@@ -21,8 +21,8 @@ pub struct ColumnSection {
     pub starts: Vec<ColumnStart>,
 }
 
-// A log for each fast field.
-pub(crate) fn column_logs(alloc: Global, schema: &Schema) -> Result<Vec<ColumnLog>, AllocError>
+/// A log for each fast field.
+pub fn column_logs(alloc: Global, schema: &Schema) -> Result<Vec<ColumnLog>, AllocError>
     requires { IsSchema schema.now }
     ensures { IfOk result (λ logs. HasColumns [] (fast_fields schema.now) logs.items) }
 {
@@ -39,8 +39,8 @@ pub(crate) fn column_logs(alloc: Global, schema: &Schema) -> Result<Vec<ColumnLo
     Ok(logs)
 }
 
-// Adds a document to each log.
-pub(crate) fn add_columns(
+/// Adds a document to each log. After an `Err` nothing is said of them.
+pub fn add_columns(
     alloc: Global,
     logs: &mut Vec<ColumnLog>,
     document: u32,
@@ -56,7 +56,7 @@ pub(crate) fn add_columns(
 }
 
 /// The columns of the fast fields, one behind the other.
-pub(crate) fn write_columns(
+pub fn write_columns(
     alloc: Global,
     schema: &Schema,
     logs: &[ColumnLog],

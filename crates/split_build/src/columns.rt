@@ -21,8 +21,12 @@ pub struct ColumnLog {
     pub entries: Vec<Entry>,
 }
 
-// The place of a text among these, behind which it is put where it is none of them.
-fn place_of(alloc: Global, texts: &mut IndexSet<String>, text: &str) -> Result<usize, AllocError>
+/// The place of a text among these, behind which it is put where it is none of them.
+pub fn text_place(
+    alloc: Global,
+    texts: &mut IndexSet<String>,
+    text: &str,
+) -> Result<usize, AllocError>
     ensures grown { OnOk result ((more : List (List ℕ)) × (texts_of texts.new.keys ≡ texts_of texts.old.keys ++ more) × AllByRecursion (λ t. t ≡ text.now) more) }
     ensures place { IfOk result (λ n. slice_get (texts_of texts.new.keys) n ≡ Some text.now) }
 {
@@ -39,7 +43,7 @@ fn number_of(alloc: Global, texts: &mut IndexSet<String>, value: &Value) -> Resu
 {
     match value {
         Value::Text(text) => {
-            let place = place_of(alloc, texts, text.as_str())?;
+            let place = text_place(alloc, texts, text.as_str())?;
             Ok(place as u64)
         }
         Value::I64(number) => Ok(turned(*number)),

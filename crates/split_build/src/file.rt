@@ -130,7 +130,7 @@ impl FileParts {
     }
 
     /// The file of these parts, for which room is made once. Each section is let go as it stands there.
-    pub(crate) fn write_file(self, alloc: Global) -> Result<Vec<u8>, AllocError>
+    pub fn write_file(self, alloc: Global) -> Result<Vec<u8>, AllocError>
         ensures { (keys : List (List ℕ)) → self.terms.count ≡ length keys → IfOk result (λ file. IsFileOf (parts_of self keys) file.items) }
     {
         let mut footer = Vec::new(alloc);

@@ -13,8 +13,8 @@ use doc_value::{Schema, TagFacts};
 use split_bundle::Placed;
 use std::alloc::{AllocError, Global};
 
-// A log for each tag field.
-pub(crate) fn tag_logs(alloc: Global, schema: &Schema) -> Result<Vec<TagLog>, AllocError>
+/// A log for each tag field.
+pub fn tag_logs(alloc: Global, schema: &Schema) -> Result<Vec<TagLog>, AllocError>
     requires { IsSchema schema.now }
     ensures { IfOk result (λ logs. HasTags [] (tag_numbers 0 schema.now.fields) logs.items) }
 {
@@ -31,12 +31,8 @@ pub(crate) fn tag_logs(alloc: Global, schema: &Schema) -> Result<Vec<TagLog>, Al
     Ok(logs)
 }
 
-// Adds a document to each log.
-pub(crate) fn add_tags(
-    alloc: Global,
-    logs: &mut Vec<TagLog>,
-    placed: &Placed,
-) -> Result<(), AllocError>
+/// Adds a document to each log. After an `Err` nothing is said of them.
+pub fn add_tags(alloc: Global, logs: &mut Vec<TagLog>, placed: &Placed) -> Result<(), AllocError>
     ensures { (numbers : List ℕ) (documents : List Placed) → HasTags documents numbers logs.old.items
         → OnOk result (HasTags (documents ++ placed.now ∷ []) numbers logs.new.items) }
 {
@@ -49,7 +45,7 @@ pub(crate) fn add_tags(
 }
 
 /// What is known of the tag fields.
-pub(crate) fn tag_facts(alloc: Global, logs: Vec<TagLog>) -> Result<TagFacts, AllocError>
+pub fn tag_facts(alloc: Global, logs: Vec<TagLog>) -> Result<TagFacts, AllocError>
     ensures { (numbers : List ℕ) (documents : List Placed) → HasTags documents numbers logs.items → IfOk result (AreTagsOf documents numbers) }
 {
     let mut facts = TagFacts::vacant(alloc);

@@ -50,7 +50,8 @@ impl TagLog {
         }
     }
 
-    fn add_term(&mut self, alloc: Global, term: &[u8]) -> Result<(), AllocError>
+    /// Adds a term. After an `Err` nothing is said of what is held.
+    pub fn add_term(&mut self, alloc: Global, term: &[u8]) -> Result<(), AllocError>
         ensures number { self.new.number ≡ self.old.number }
         ensures terms { (terms : List (List ℕ)) → HasTerms self.old.terms.items terms → OnOk result (HasTerms self.new.terms.items (terms ++ term.now ∷ [])) }
     {

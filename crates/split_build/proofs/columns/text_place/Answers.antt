@@ -2,7 +2,7 @@ use Rattle.std.proofs.Common.{sym}
 use Rattle.std.specs.Prelude.{string_bytes}
 use Rattle.split_build.proofs.CellLemmas.{text_found, texts_inserted, text_stored}
 use Rattle.split_build.proofs.SaidLemmas.{eq_same}
-use Rattle.split_build.proofs.columns.place_of.Goals as goal
+use Rattle.split_build.proofs.columns.text_place.Goals as goal
 
 pub returns-in-Some-clause-place : goal.returns-in-Some-clause-place
 returns-in-Some-clause-place c =
