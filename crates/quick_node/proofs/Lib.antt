@@ -36,7 +36,11 @@ mod Faulting
 mod Telling
 mod Catching
 mod Gathered
+mod Lateness
 mod Expiring
+mod Timing
+mod MergeCalls
+mod Merged
 mod Sources
 pub mod Founding
 pub mod Founded

@@ -4,9 +4,8 @@ use Rattle.std.proofs.Math.Seq.{take-length}
 use Rattle.std.proofs.lemmas.Bool.{leb-true}
 use Rattle.std.proofs.lemmas.List.{append-nil, length-append, length-map, take-append-le}
 use Rattle.std.specs.List.{AllByRecursion}
-use Rattle.std.specs.Prelude.{Option, Some, None, Result, Ok, Err, ⊤, Contains, nat_le, slice_get}
-use Rattle.meta_journal.specs.declared.entry.Act.{Act}
-use Rattle.meta_journal.specs.declared.entry.Act.TheVariants.{Replace, Stage}
+use Rattle.std.specs.Prelude.{◌==◌, ◌||◌, Option, Some, None, Result, Ok, Err, ⊤, Contains, nat_le, slice_get}
+use Rattle.meta_journal.specs.declared.entry.Act.TheVariants.{Replace}
 use Rattle.meta_journal.specs.declared.entry.Entry.{Entry}
 use Rattle.meta_store.proofs.Numbers.{history-snoc}
 use Rattle.meta_store.proofs.Staged.{HasStaged-more}
@@ -14,19 +13,18 @@ use Rattle.meta_store.specs.History.{history, last_number, moment_of}
 use Rattle.meta_store.specs.History.History.{◌▸◌}
 use Rattle.meta_store.specs.Rows.{rows}
 use Rattle.meta_store.specs.State.{Legal}
-use Rattle.meta_store.specs.declared.refusal.Refusal.{Refusal}
 use Rattle.source_log.specs.Log.{Log}
 use Rattle.split_states.specs.Answers.{AreApart, IsIn}
 use Rattle.split_states.specs.declared.facts.RowFacts.{RowFacts}
 use Rattle.split_states.specs.declared.rows.Row.{Row}
 use Rattle.split_states.specs.declared.rows.RowState.TheVariants.{Published, Staged}
-use Rattle.index_world.specs.Calls.{Fate, Gives, Trouble, faulted, no_memory, Unmade, refused, troubled, Unread, not_read, answer_behind, asked_and_looked, asked_clock, asking, entry_of, fetched, loaded, settled_and_copied, upload_made}
+use Rattle.index_world.specs.Calls.{Call, Fate, Trouble, faulted, no_memory, Unmade, refused, troubled, Unread, not_read, answer_behind, asked_and_looked, begun, entry_of, fetched, load_by, loaded, may_fail, read_journal, store_failed, unless_empty, upload_made}
 use Rattle.index_world.specs.Calls as calls
 use Rattle.index_world.specs.Config.{reads}
 use Rattle.index_world.specs.Configuration.{config_or, configuration}
 use Rattle.index_world.specs.Core.{Core}
 use Rattle.index_world.specs.Gate.{replace_call, stage_act, stage_call}
-use Rattle.index_world.specs.Index.{HasStaged, IsAllowed}
+use Rattle.index_world.specs.Index.{HasStaged}
 use Rattle.index_world.proofs.InHand.{HasStaged-new}
 use Rattle.indexing_run.specs.Outcomes.{IndexerOutcome}
 use Rattle.indexing_run.specs.Places as indexing
@@ -36,20 +34,19 @@ use Rattle.split_collector.specs.Outcomes.{Outcome as CollectorOutcome}
 use Rattle.upkeep_run.specs.Outcomes.{UpkeepOutcome}
 use Rattle.upkeep_run.specs.Outcomes as said
 use Rattle.upkeep_run.specs.Places.{Held, Place, Work, fetching, held_facts, held_file, idle, row_numbers, staged, uploaded}
-use Rattle.upkeep_run.specs.Steps.{Luck, Stepped, fetch_by, grace_in, held_of, lost_outcome, or_short, plan_by, plan_with, replace_by, rows_in, stage_by, stage_outcome, step_place, step_stage, step_work, step_worker, trouble_outcome, upload_by, work_in}
-use Rattle.upkeep_run.specs.declared.work.Aim.{Aim}
+use Rattle.upkeep_run.specs.Steps.{Luck, Stepped, fetch_by, grace_in, held_of, or_short, plan_by, plan_with, replace_by, rows_in, stage_by, step_place, step_work, step_worker, trouble_outcome, upload_by, work_in}
 use Rattle.upkeep_run.specs.declared.work.Aim.TheVariants.{Merging, Deleting}
-use Rattle.node_run.specs.Node.{Node, Line, At, Assign, StepIndexer, RestartIndexer, RestartClient, StepMerger, RestartMerger, StepCollector, RestartCollector, RestartNode, Open, StepClient, Outcome, worker_said}
-use Rattle.node_run.specs.Turns.{Luck as LineLuck, Turn, Turned, Turns, assign_at, client_named, client_turn_by, collector_turn_by, full_turn, indexer_at, indexer_turn_by, open_by, or_quiet, quiet, restart_by, said_by_client, said_by_collector, said_by_indexer, said_by_worker, turn_by, with_merger, worker_turn_by, working_luck}
-use Rattle.node_run.proofs.CallMoves.{Grows, asked_and_looked_moves, fetched_moves, file_made_moves}
+use Rattle.node_run.specs.Node.{Node, Line, At, Assign, StepIndexer, RestartIndexer, RestartClient, StepMerger, RestartMerger, StepCollector, RestartCollector, RestartNode, Open, StepClient, Outcome, client_said, collector_said, indexer_said, worker_said}
+use Rattle.node_run.specs.Turns.{Luck as LineLuck, Turn, Turned, Turns, assign_at, client_named, client_turn_by, collector_turn_by, full_turn, indexer_at, indexer_turn_by, open_by, or_quiet, restart_by, said_by_client, said_by_collector, said_by_indexer, said_by_worker, turn_by, with_merger, worker_turn_by, working_luck}
+use Rattle.node_run.proofs.CallMoves.{Grows, asked_and_looked_moves}
 use Rattle.node_run.proofs.Moving.{turn_later, turns_later}
-use Rattle.node_run.proofs.WorkerMoves.{fetched_same, planned_same, replaced_same, staged_same, uploaded_same, worker_moves}
-use Rattle.quick_node.specs.Replaces.{IsHindered, Merged, Replaces, ReplacesFrom, Rested, Rests, RestsFrom, chosen_at, chosen_by, moment_at}
-use Rattle.quick_node.specs.Reading.{Ending, ReadsFrom, fit_if, fit_of, fits, falls_or_unknown, last_moment, raw_lines}
-use Rattle.quick_node.specs.Serve.{IsPrefixOf, Before, After, End, by_reading, no_index, opening_failed, read_failed, write_failed, out_of_memory, HasEnd, IsFresh, Answers, Unopened, RanShort, Lives}
+use Rattle.node_run.proofs.WorkerMoves.{fetched_same, planned_same, replaced_same, staged_same, uploaded_same}
+use Rattle.quick_node.specs.Replaces.{IsHindered, Merged, Replaces, ReplacesFrom, Rested, Rests, RestsFrom, chosen_at, chosen_by}
+use Rattle.quick_node.specs.Reading.{Ending, stopped, ReadsFrom, fit_if, fit_of, fits, falls_or_unknown, last_moment, raw_lines}
+use Rattle.quick_node.specs.Serve.{IsPrefixOf, Before, After, End, by_reading, no_index, opening_failed, read_failed, write_failed, out_of_memory, HasEnd, IsFresh, Answers, RanShort, Lives}
 use Rattle.quick_node.proofs.Clocks.{turn_ticks}
 use Rattle.quick_node.proofs.EntryRows.{legal_before}
-use Rattle.quick_node.proofs.Files.{IsTimed, asked_and_looked_one, loaded_few}
+use Rattle.quick_node.proofs.Files.{IsTimed, asked_and_looked_one, begun_still, loaded_few}
 use Rattle.quick_node.proofs.Living.{opens_moves}
 use Rattle.quick_node.proofs.MergeCalls.{Appends, Picks, appended_says, is_hindered, picks, picks_none}
 use Rattle.quick_node.proofs.Names.{moments_go_on}
@@ -550,6 +547,29 @@ end_rises before after (opening_failed low high) lines e = none_rise lines e
 end_rises before after read_failed lines e = lines_rise (length before.log_faults) (length before.input) 0 [] (raw_lines before.input) lines stopped e.0
 end_rises before after write_failed lines e = lines_rise (length before.log_faults) (length before.input) 0 [] (raw_lines before.input) lines stopped e.0
 end_rises before after out_of_memory lines e = lines_rise (length before.log_faults) (length before.input) 0 [] (raw_lines before.input) lines stopped e
+
+-- ---- an index that was opened has an entry
+
+ok_apart : (e : Unread) → ◌≡◌ {A = Result ⊤ Unread} (Err e) (Ok tt) → ⊥
+ok_apart e same = cc
+
+some_by : (n : ℕ) → (n == 0) ≡ false → 0 < n
+some_by zero e = cc
+some_by (suc n) e = omega arith
+
+loaded_by : (b c : Bool) (second : Call) (count : ℕ) (core : Core) → (load_by b c second count core).answer ≡ Ok tt → 0 < length (load_by b c second count core).core.history
+loaded_by true c second count core ok = absurd (ok_apart (not_read no_memory) ok)
+loaded_by false true second count core ok = absurd (ok_apart (not_read (store_failed count (begun second core))) ok)
+loaded_by false false second count core ok =
+    by (length (read_journal core).history == 0) refl ok
+  where
+    by : (b : Bool) → (length (read_journal core).history == 0) ≡ b → (unless_empty b (begun second (read_journal core))).answer ≡ Ok tt → 0 < length (unless_empty b (begun second (read_journal core))).core.history
+    by true e k = absurd (ok_apart calls.no_index k)
+    by false e k = let l = some_by (length (read_journal core).history) e in let same = ap (λ (es : List Entry). length es) (begun_still second (read_journal core)).history in omega (arith, l, same)
+
+loaded_some : (fate : Fate) (core : Core) → (loaded fate core).answer ≡ Ok tt → 0 < length (loaded fate core).core.history
+loaded_some fate core ok =
+    loaded_by (fate.first.short || fate.second.short) (may_fail fate.first core.store_faults || may_fail fate.second (begun fate.first core).store_faults) fate.second core.store_faults (begun fate.first core) ok
 
 -- ---- lines, and a call
 
