@@ -1,5 +1,6 @@
 pub mod OnLiterals
 pub mod Rows
+pub mod MergerRows
 pub mod CallMoves
 pub mod CollectorMoves
 pub mod WorkerMoves

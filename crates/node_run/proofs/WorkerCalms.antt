@@ -89,8 +89,8 @@ module _ (luck : Luck) (log : Log) (core : Core) (s : IsStill core) where
       (step_raise calm_working number work.upto core) (step_stage calm_working (held_of Deleting work core) core) (step_raise_calms number work.upto) (step_stage_calms (held_of Deleting work core))
 
   work_calms : (aim : Aim) (work : Work) (unfetched : List Row) → StepIs (step_work aim luck work unfetched core) (step_work aim calm_working work unfetched core)
-  work_calms aim work [] = close_calms aim work
-  work_calms aim work (row ∷ more) = λ same.
+  work_calms aim work [] same = close_calms aim work same
+  work_calms aim work (row ∷ more) same =
       let given = fetched (grace_in work) luck.world core in
       fetch_calms work row.number more given (fetched (grace_in work) calm_fate core)
       (fetched_calms (grace_in work) luck.world core s (handed core given.core _ (fetched_same given.answer work row.number more given.core) same))
