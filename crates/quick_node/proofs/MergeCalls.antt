@@ -91,9 +91,9 @@ module _ (act : Core → Act) where
 
   then_appends : (start : Core) (r : Result ⊤ Unmade) (core : Core) (call : Call) (count : ℕ) → Grows start core → ((refusal : Refusal) → r ≡ Err (refused refusal) → ⊥) →
       Made_behind start (and_then_by r core (λ c. last_create call count (act c) c))
-  then_appends start (Ok done) core call count g no = last_appends start call count core g
-  then_appends start (Err (refused refusal)) core call count g no = absurd (no refusal refl)
-  then_appends start (Err (troubled trouble)) core call count g no = tt
+  then_appends start (Ok done) core call count g never = last_appends start call count core g
+  then_appends start (Err (refused refusal)) core call count g never = absurd (never refusal refl)
+  then_appends start (Err (troubled trouble)) core call count g never = tt
 
   never_refused : (r : Result ⊤ Trouble) (core : Core) (refusal : Refusal) → (troubled_by r core).answer ≡ Err (refused refusal) → ⊥
   never_refused (Ok done) core refusal e = cc
@@ -153,7 +153,7 @@ in_or state list n = by (row_at list n)
 
     as_row : (row : Row) → (row.state ≡ state) ⊎ (row.state ≡ state → ⊥) → ((row.state ≡ state) × ⊤) ⊎ ((row.state ≡ state) × ⊤ → ⊥)
     as_row row (inl e) = inl (e, tt)
-    as_row row (inr no) = inr (λ h. no h.0)
+    as_row row (inr other) = inr (λ h. other h.0)
 
     by : (o : Option Row) → IsSomeAnd o (λ row. (row.state ≡ state) × ⊤) ⊎ (IsSomeAnd o (λ row. (row.state ≡ state) × ⊤) → ⊥)
     by None = inr (λ h. h)
@@ -168,7 +168,7 @@ each_or list (n ∷ old) = by (in_or Published list n) (each_or list old)
         AllByRecursion (IsIn Published list) (n ∷ old) ⊎ ((one : ℕ) × Contains (n ∷ old) one × (IsIn Published list one → ⊥))
     by (inl here) (inl rest) = inl (here, rest)
     by (inl here) (inr r) = inr (r.0, (suc r.1.0, (let l = r.1.1 in omega (arith, l)), r.1.2), r.2)
-    by (inr no) rest = inr (n, (0, omega arith, refl), no)
+    by (inr other) rest = inr (n, (0, omega arith, refl), other)
 
 false_is_true : false ≡ true → ⊥
 false_is_true e = cc
@@ -212,7 +212,7 @@ module _ (es : List Entry) (moment n : ℕ) (old : List ℕ) (facts : RowFacts) 
       Hindered list = (IsIn Staged list n → ⊥) ⊎ ((one : ℕ) × Contains old one × (IsIn Published list one → ⊥))
 
       by : IsIn Staged here n ⊎ (IsIn Staged here n → ⊥) → AllByRecursion (IsIn Published here) old ⊎ ((one : ℕ) × Contains old one × (IsIn Published here one → ⊥)) → Hindered here
-      by (inr no) each = inl no
+      by (inr other) each = inl other
       by (inl h) (inr one) = inr one
       by (inl h) (inl all) =
           absurd (no_ok refusal (answer_behind es entry) e ((answered (reading_of reads (config_of reads (history es)) (Replace n old 0)) (state_of reads (history es)) entry tt).1 (may_come h all)))
@@ -250,37 +250,39 @@ once_apart (row ∷ list) once = (absent_lacks list row.number once.0, once_apar
 module _ (test : Row → Bool) where
   filter_lacks : (list : List Row) (n : ℕ) → Lacks list n → Lacks (filter test list) n
   filter_lacks [] n e = refl
-  filter_lacks (row ∷ list) n e = by (test row) (or_parts (row.number == n) (Repeats (row_numbers list) n) e)
+  filter_lacks (row ∷ list) n e = let p = or_parts (row.number == n) (Repeats (row_numbers list) n) e in by (test row) p.0 (filter_lacks list n p.1)
     where
-      by : (b : Bool) → ((row.number == n) ≡ false) × Lacks list n → Lacks (cond b (row ∷ filter test list) (filter test list)) n
-      by true p = or_false (row.number == n) (Repeats (row_numbers (filter test list)) n) p.0 (filter_lacks list n p.1)
-      by false p = filter_lacks list n p.1
+      by : (b : Bool) → (row.number == n) ≡ false → Lacks (filter test list) n → Lacks (cond b (row ∷ filter test list) (filter test list)) n
+      by true away rest = or_false (row.number == n) (Repeats (row_numbers (filter test list)) n) away rest
+      by false away rest = rest
 
   filter_apart : (list : List Row) → Apart list → Apart (filter test list)
   filter_apart [] a = tt
-  filter_apart (row ∷ list) a = by (test row)
+  filter_apart (row ∷ list) a = by (test row) (filter_lacks list row.number a.0) (filter_apart list a.1)
     where
-      by : (b : Bool) → Apart (cond b (row ∷ filter test list) (filter test list))
-      by true = (filter_lacks list row.number a.0, filter_apart list a.1)
-      by false = filter_apart list a.1
+      by : (b : Bool) → Lacks (filter test list) row.number → Apart (filter test list) → Apart (cond b (row ∷ filter test list) (filter test list))
+      by true lacks rest = (lacks, rest)
+      by false lacks rest = rest
 
 with_lacks : (row : Row) (list : List Row) (n : ℕ) → (row.number == n) ≡ false → Lacks list n → Lacks (with_row row list) n
 with_lacks row [] n e lacks = or_false (row.number == n) false e refl
-with_lacks row (other ∷ list) n e lacks = by (is_lt (row_order row other)) (or_parts (other.number == n) (Repeats (row_numbers list) n) lacks)
+with_lacks row (other ∷ list) n e lacks =
+    let p = or_parts (other.number == n) (Repeats (row_numbers list) n) lacks in by (is_lt (row_order row other)) p.0 (with_lacks row list n e p.1)
   where
-    by : (b : Bool) → ((other.number == n) ≡ false) × Lacks list n → Lacks (cond b (row ∷ other ∷ list) (other ∷ with_row row list)) n
-    by true p = or_false (row.number == n) (Repeats (row_numbers (other ∷ list)) n) e lacks
-    by false p = or_false (other.number == n) (Repeats (row_numbers (with_row row list)) n) p.0 (with_lacks row list n e p.1)
+    by : (b : Bool) → (other.number == n) ≡ false → Lacks (with_row row list) n → Lacks (cond b (row ∷ other ∷ list) (other ∷ with_row row list)) n
+    by true away rest = or_false (row.number == n) (Repeats (row_numbers (other ∷ list)) n) e lacks
+    by false away rest = or_false (other.number == n) (Repeats (row_numbers (with_row row list)) n) away rest
 
 with_apart : (row : Row) (list : List Row) → Lacks list row.number → Apart list → Apart (with_row row list)
 with_apart row [] lacks a = (refl, tt)
-with_apart row (other ∷ list) lacks a = by (is_lt (row_order row other)) (or_parts (other.number == row.number) (Repeats (row_numbers list) row.number) lacks)
+with_apart row (other ∷ list) lacks a =
+    let p = or_parts (other.number == row.number) (Repeats (row_numbers list) row.number) lacks in
+    let away : (row.number == other.number) ≡ false = ne_eqb row.number other.number (λ e. eqb-false other.number row.number p.0 (sym e)) in
+    by (is_lt (row_order row other)) (with_lacks row list other.number away a.0) (with_apart row list p.1 a.1)
   where
-    by : (b : Bool) → ((other.number == row.number) ≡ false) × Lacks list row.number → Apart (cond b (row ∷ other ∷ list) (other ∷ with_row row list))
-    by true p = (lacks, a)
-    by false p =
-        let away : (row.number == other.number) ≡ false = ne_eqb row.number other.number (λ e. eqb-false other.number row.number p.0 (sym e)) in
-        (with_lacks row list other.number away a.0, with_apart row list p.1 a.1)
+    by : (b : Bool) → Lacks (with_row row list) other.number → Apart (with_row row list) → Apart (cond b (row ∷ other ∷ list) (other ∷ with_row row list))
+    by true here rest = (lacks, a)
+    by false here rest = (here, rest)
 
 order_lacks : (list : List Row) (n : ℕ) → Lacks list n → Lacks (in_order list) n
 order_lacks [] n e = refl
@@ -303,11 +305,11 @@ take_apart (suc k) (row ∷ list) a = (take_lacks k list row.number a.0, take_ap
 
 fitting_apart : (most : ℕ) (list : List Row) → Apart list → Apart (fitting most list)
 fitting_apart zero list a = tt
-fitting_apart (suc n) list a = by (fits_split (take (suc n) list))
+fitting_apart (suc n) list a = by (fits_split (take (suc n) list)) (fitting_apart n list a)
   where
-    by : (b : Bool) → Apart (cond b (take (suc n) list) (fitting n list))
-    by true = take_apart (suc n) list a
-    by false = fitting_apart n list a
+    by : (b : Bool) → Apart (fitting n list) → Apart (cond b (take (suc n) list) (fitting n list))
+    by true rest = take_apart (suc n) list a
+    by false rest = rest
 
 abbrev ApartIf : Option (List Row) → Type 0
 ApartIf None = ⊤
@@ -396,7 +398,7 @@ module _ (core : Core) (legal : Legal reads (history core.history)) (some : 0 < 
   all_apart = least_apart config.policy config.docs_target core.moment (rows (history core.history)) (once_apart (rows (history core.history)) (sound reads (history core.history) legal).held.apart) 0 (level_count (rows (history core.history)))
 
   -- its rows, where it has some, are those that are chosen, and no two have one number
-  record Picks (list : List Row) : Type 0 where
+  pub record Picks (list : List Row) : Type 0 where
     pub chosen : chosen_by (config_or (configuration core.history)) core.moment core.history ≡ Some (row_numbers list)
     pub apart : AreApart (row_numbers list)
 

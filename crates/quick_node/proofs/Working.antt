@@ -30,7 +30,8 @@ among_get (y ∷ xs) zero x e = inl (option_same y x e)
 among_get (y ∷ xs) (suc place) x e = inr (among_get xs place x e)
 
 among_left : {X : Type 0} (xs : List X) (place : ℕ) (x : X) → Among x (remove xs place) → Among x xs
-among_left [] place x a = a
+among_left [] zero x a = a
+among_left [] (suc place) x a = a
 among_left (y ∷ xs) zero x a = inr a
 among_left (y ∷ xs) (suc place) x (inl e) = inl e
 among_left (y ∷ xs) (suc place) x (inr a) = inr (among_left xs place x a)
