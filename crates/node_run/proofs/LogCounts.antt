@@ -16,11 +16,12 @@ use Rattle.indexing_run.specs.Steps.{Stepped, stepped, log_may_fail, log_called,
 use Rattle.indexing_run.specs.Steps as indexing
 use Rattle.root_search.specs.Steps.{Request, no_request, opened, planned, Client}
 use Rattle.upkeep_run.specs.Places.{Place as Worker}
+use Rattle.upkeep_run.specs.Steps.{step_worker}
 use Rattle.upkeep_run.specs.declared.work.Aim.{Aim}
 use Rattle.upkeep_run.specs.declared.work.Aim.TheVariants.{Merging}
 use Rattle.node_run.specs.Calm.{log_counts}
 use Rattle.node_run.specs.Node.{Node, Line, At, Assign, StepIndexer, RestartIndexer, RestartClient, StepMerger, RestartMerger, StepCollector, RestartCollector, RestartNode, Open, StepClient, Outcome}
-use Rattle.node_run.specs.Turns.{Luck, Turned, made_idle, indexer_at, indexing_luck, assign_at, indexer_turn_by, client_turn_by, client_named, worker_turn_by, with_merger, collector_turn_by, open_by, restart_by, full_turn, quiet, or_quiet, turn_by, Turn, Turns}
+use Rattle.node_run.specs.Turns.{Luck, Turned, made_idle, indexer_at, indexing_luck, assign_at, indexer_turn_by, client_turn_by, client_named, working_luck, worker_turn_by, with_merger, collector_turn_by, open_by, restart_by, full_turn, quiet, or_quiet, turn_by, Turn, Turns}
 use Rattle.node_run.proofs.CalmSteps.{checkpoints_log}
 
 -- ---- one count
@@ -172,7 +173,8 @@ module _ (node : Node) where
   worker_counted : (down : Bool) (aim : Aim) (worker : Worker) (keep : Worker → Node → Node) (luck : Luck) → ((place : Worker) → (keep place node).indexers ≡ node.indexers) →
       Counted (worker_turn_by down aim worker keep luck node).node
   worker_counted true aim worker keep luck same = unchanged node.indexers refl
-  worker_counted false aim worker keep luck same = unchanged _ (ap log_counts (same _))
+  worker_counted false aim worker keep luck same =
+      let step = step_worker aim (working_luck luck) node.log worker node.core in unchanged (keep step.place node).indexers (ap log_counts (same step.place))
 
   collector_counted : (down : Bool) (luck : Luck) → Counted (collector_turn_by down luck node).node
   collector_counted true luck = unchanged node.indexers refl

@@ -10,3 +10,4 @@ mod work;
 pub use merger::Merger;
 pub use outcome::{UpkeepOutcome, print_outcome};
 pub use step_laws::{nothing_is_exact, others_leave_it};
+pub use work::Aim;

@@ -36,7 +36,7 @@ use std::mem;
 
 /// What rows are planned for.
 #[derive(Clone, Copy, Drop)]
-pub(crate) enum Aim {
+pub enum Aim {
     Merging,
     Deleting,
 }
