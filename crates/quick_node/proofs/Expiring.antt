@@ -63,9 +63,9 @@ module _ (grace : Grace) where
   unless_late (Err trouble) core next g n = g
 
   each_late : (more : List Fate) (fate : Fate) (core : Core) → IfErr (IsLate grace) (fetched_each grace fate more core).answer
-  each_late [] fate core = fetched_late fate core
+  each_late [] fate core = fetched_late grace fate core
   each_late (next ∷ more) fate core =
-      let given = fetched grace fate core in unless_late given.answer given.core (fetched_each grace next more) (fetched_late fate core) (each_late more next given.core)
+      let given = fetched grace fate core in unless_late given.answer given.core (fetched_each grace next more) (fetched_late grace fate core) (each_late more next given.core)
 
 -- ---- a client's step
 

@@ -1,5 +1,5 @@
 -- A step of a merger or a delete worker comes too late only where the deletion grace of the index had passed behind its plan, whatever lands and fails.
-use Rattle.std.proofs.Common.{◌≡◌, ℕ, ◌+◌, ◌≤◌, Bool, true, false, List, [], ◌∷◌, sym, ap, ◌∙◌, subst, arith}
+use Rattle.std.proofs.Common.{◌≡◌, ℕ, ◌+◌, ◌≤◌, Bool, true, false, List, [], ◌∷◌, refl, sym, ap, ◌∙◌, subst, arith}
 use Rattle.std.proofs.lemmas.Bool.{leb-true}
 use Rattle.std.specs.Prelude.{Option, Some, None, Result, Ok, Err, ⊤, if◌then◌else◌, is_some, length, nat_le}
 use Rattle.meta_journal.specs.Places.{split_key}
@@ -16,7 +16,7 @@ use Rattle.index_world.specs.Gate.{raise_call, replace_call, stage_act, stage_ca
 use Rattle.index_world.specs.Index.{max_entries}
 use Rattle.upkeep_run.specs.Outcomes.{UpkeepOutcome}
 use Rattle.upkeep_run.specs.Places.{Held, Place, Work, fetching, held_facts, held_file, idle, staged, uploaded}
-use Rattle.upkeep_run.specs.Steps.{Luck, Stepped, config_in, drops_none, fetch_by, first_number, grace_in, held_of, or_short, plan_by, plan_with, raise_by, replace_by, rows_in, stage_by, step_close, step_place, step_raise, step_stage, step_work, step_worker, trouble_outcome, upload_by, work_in}
+use Rattle.upkeep_run.specs.Steps.{Luck, Stepped, config_in, drops_none, fetch_by, first_number, grace_in, held_of, or_short as or_unsaid, plan_by, plan_with, raise_by, replace_by, rows_in, stage_by, step_close, step_place, step_raise, step_stage, step_work, step_worker, trouble_outcome, upload_by, work_in}
 use Rattle.upkeep_run.specs.declared.work.Aim.{Aim}
 use Rattle.upkeep_run.specs.declared.work.Aim.TheVariants.{Deleting, Merging}
 use Rattle.node_run.proofs.CallTells.{IfErr, IsStoreTrouble, asked_and_looked_own, got_own, settle_own}
@@ -247,11 +247,11 @@ module _ (grace : ℕ) where
     place_keeps aim (uploaded held) k same =
         let given = replace_call held.number held.old held.upto luck.world core in replace_keeps given.answer held.number given.core (appended_timely (λ c. Replace held.number held.old held.upto) luck.world core)
 
-    short_keeps : (b : Bool) (step : Stepped) → StepOnTime grace step → StepOnTime grace (or_short b step)
+    short_keeps : (b : Bool) (step : Stepped) → StepOnTime grace step → StepOnTime grace (or_unsaid b step)
     short_keeps true step k = record { place = tt; said = tt }
     short_keeps false step k = k
 
-    short_core : (b : Bool) (step : Stepped) → (or_short b step).core ≡ step.core
+    short_core : (b : Bool) (step : Stepped) → (or_unsaid b step).core ≡ step.core
     short_core true step = refl
     short_core false step = refl
 

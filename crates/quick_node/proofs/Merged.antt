@@ -28,7 +28,8 @@ use Rattle.index_world.specs.Index.{HasStaged}
 use Rattle.index_world.proofs.InHand.{HasStaged-new}
 use Rattle.indexing_run.specs.Outcomes.{IndexerOutcome}
 use Rattle.indexing_run.specs.Places as indexing
-use Rattle.root_search.specs.Steps.{Request, no_request, opened, planned, Client}
+use Rattle.root_search.specs.Steps.{Request, no_request, opened, Client}
+use Rattle.root_search.specs.Steps as searching
 use Rattle.root_search.specs.declared.outcome.SearchStep.{SearchStep}
 use Rattle.split_collector.specs.Outcomes.{Outcome as CollectorOutcome}
 use Rattle.upkeep_run.specs.Outcomes.{UpkeepOutcome}
@@ -256,7 +257,9 @@ module _ (start : Core) (clock : ℕ) (plan : List ℕ) where
         both = subst (Legal reads) (history-snoc c.history new) (subst (λ (es : List Entry). Legal reads (history es)) a.2 legal)
 
         number_is : last_number (history core.history) ≡ last_number (history c.history) + 1
-        number_is = ap (λ (es : List Entry). last_number (history es)) a.2 ∙ ap last_number (history-snoc c.history new)
+        number_is =
+            let next : max (last_number (history c.history)) (last_number (history c.history) + 1) ≡ last_number (history c.history) + 1 = omega arith in
+            ap (λ (es : List Entry). last_number (history es)) a.2 ∙ ap last_number (history-snoc c.history new) ∙ next
 
         there : HasStaged core.history (last_number (history core.history)) [] facts
         there =
@@ -357,8 +360,8 @@ module _ (luck : Luck) (log : Log) (start : Core) (clock : ℕ) (plan : List ℕ
       ((appended_came (λ c. Replace held.number held.old held.upto) luck.world start).timed t) (appended_says (λ c. Replace held.number held.old held.upto) luck.world start)
 
   short_did : (b : Bool) (step : Stepped) → DidAll step → DidAll (or_short b step)
-  short_did true step d legal g o e = absurd (none_some o e)
-  short_did false step d legal g = d legal g
+  short_did true step d = λ legal g o e. absurd (none_some o e)
+  short_did false step d = d
 
   step_did : (place : Place) → Holds start.history plan place → DidAll (step_worker Merging luck log place start)
   step_did place h = short_did luck.short (step_place Merging place luck log start) (place_did place h)
@@ -419,7 +422,7 @@ module _ (start : Core) (clock : ℕ) (plan : List ℕ) where
 
   worker_did : (said : Option UpkeepOutcome) (new : Node) → ((outcome : UpkeepOutcome) → said ≡ Some outcome → Did start clock plan outcome new.merger new.core) → LineDidAll (record { said = said_by_worker Merging said; node = new })
   worker_did None new d = unsaid_did new
-  worker_did (Some said) new d outcome e =
+  worker_did (Some said) new d = λ outcome e.
       subst (λ (o : Outcome). LineDid start clock plan o new) (line_same (worker_said Merging said) outcome e)
       (let k = d said refl in record { planned = k.planned; replaces = k.merged; rests = k.rested; holds = k.holds })
 
@@ -463,7 +466,7 @@ module _ (luck : LineLuck) (node : Node) (clock : ℕ) (plan : List ℕ) (t : Is
   open_line : (request : Request) (name text : List ℕ) (client : Client) → FullDid (open_by request name text client node)
   open_line no_request name text client legal g = let turn = open_by no_request name text client node in other_did node.core clock plan _ turn.node tt (held_by turn.node refl legal g)
   open_line (opened other) name text client legal g = other_did node.core clock plan _ node tt h
-  open_line (planned plan) name text client legal g = other_did node.core clock _ _ node tt h
+  open_line (searching.planned other) name text client legal g = other_did node.core clock plan _ node tt h
 
   restart_line : (r : Result ⊤ Unread) (core : Core) → FullDid (restart_by r core node)
   restart_line (Ok done) core legal g = other_did node.core clock plan _ _ tt tt
@@ -597,33 +600,18 @@ module _ (exit : List Entry) (legal : Legal reads (history exit)) where
   turns_merge clock least plan node last [] (o ∷ os) told t rise some h le p run = absurd run
   turns_merge clock least plan node last (line ∷ lines) [] told t rise some h le p run = absurd run
   turns_merge clock least plan node last (line ∷ lines) (o ∷ os) told t rise some h le p run =
-      (
+      let mid = run.0 in
+      let next = last_moment clock (line ∷ []) in
+      let here : IsPrefixOf mid.core.history exit = prefix_on mid.core.history last.core.history exit (turns_later mid last lines os run.2).grows p in
+      let up : length node.core.history ≤ length mid.core.history = longer node.core.history mid.core.history (turn_later node line (Some o) mid run.1).grows in
+      let is_next : last_moment node.core.clock (line ∷ []) ≡ next = ap (λ (m : ℕ). last_moment m (line ∷ [])) told in
+      let d = turn_did node line o mid next plan t some h is_next (front_legal mid.core.history here) run.1 in
+      let rest : Both next (length mid.core.history) d.planned lines os =
+      turns_merge next (length mid.core.history) d.planned mid last lines os (turn_ticks node line o mid run.1 ∙ is_next)
+      (turn_timed node line o mid t (subst (λ (m : ℕ). Rises m line) (sym told) rise.0) run.1) rise.1 (omega (arith, some, up)) d.holds (omega arith) p run.2 in (
         (length mid.core.history, d.planned, omega (arith, le, up), longer mid.core.history exit here, replaces_on mid.core.history here next (length node.core.history) least le plan d.planned o d.replaces, rest.0),
         (length mid.core.history, omega (arith, le, up), longer mid.core.history exit here, rests_on mid.core.history here next (length node.core.history) least le o d.rests, rest.1),
       )
-    where
-      mid : Node
-      mid = run.0
-
-      next : ℕ
-      next = last_moment clock (line ∷ [])
-
-      here : IsPrefixOf mid.core.history exit
-      here = prefix_on mid.core.history last.core.history exit (turns_later mid last lines os run.2).grows p
-
-      up : length node.core.history ≤ length mid.core.history
-      up = longer node.core.history mid.core.history (turn_later node line (Some o) mid run.1).grows
-
-      is_next : last_moment node.core.clock (line ∷ []) ≡ next
-      is_next = ap (λ (m : ℕ). last_moment m (line ∷ [])) told
-
-      d : LineDid node.core next plan o mid
-      d = turn_did node line o mid next plan t some h is_next (front_legal mid.core.history here) run.1
-
-      rest : Both next (length mid.core.history) d.planned lines os
-      rest =
-          turns_merge next (length mid.core.history) d.planned mid last lines os (turn_ticks node line o mid run.1 ∙ is_next)
-          (turn_timed node line o mid t (subst (λ (m : ℕ). Rises m line) (sym told) rise.0) run.1) rise.1 (omega (arith, some, up)) d.holds (omega arith) p run.2
 
   module _ (entry : List Entry) (before : Before) (fresh : Node) (is : IsFresh before entry fresh) where
     fresh_timed : IsTimed fresh.core

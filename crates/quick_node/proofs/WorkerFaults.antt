@@ -42,7 +42,7 @@ module _ (low : ℕ) (core : Core) where
   as_told : {E : Type 0} (told : E → List Interval) (e : E) (said : List Interval) → said ≡ told e → Good {A = ⊤} told low (gives (Err e) core) → Says low said core
   as_told told e said same g = subst (λ faults. Says low faults core) (sym same) (record { says = g.says; on = g.on; bound = g.bound })
 
-  done_is : {E : Type 0} (told : E → List Interval) → Good told low (gives (Ok tt) core) → Says low [] core
+  done_is : {E : Type 0} (told : E → List Interval) → Good {A = ⊤} told low (gives (Ok tt) core) → Says low [] core
   done_is told g = record { says = g.on; on = g.on; bound = g.bound }
 
   -- ---- behind a call
