@@ -2,9 +2,9 @@
 -- taken in; and a plan's rows are those that the policy chooses.
 use Rattle.std.proofs.Common.{◌≡◌, ◌⊎◌, ◌≢◌, ℕ, zero, suc, ◌+◌, ◌<◌, ◌≤◌, ◌==◌, ◌&&◌, Bool, true, false, cond, List, [], ◌∷◌, ◌++◌, length, map, take, option_map, min, refl, sym, ap, ◌∙◌, subst, inl, inr, arith, ne_eqb}
 use Rattle.std.proofs.Math.Seq.{take-length}
-use Rattle.std.proofs.lemmas.Bool.{and_from, eqb-false, le-leb}
+use Rattle.std.proofs.lemmas.Bool.{and_from, eq-eqb, eqb-false, le-leb, le-ltb, ltb-false}
 use Rattle.std.specs.List.{AllByRecursion}
-use Rattle.std.specs.Prelude.{◌||◌, Option, Some, None, Result, Ok, Err, IsOk, IsSomeAnd, ⊤, Contains, filter, nat_le}
+use Rattle.std.specs.Prelude.{◌||◌, Option, Some, None, Result, Ok, Err, IsOk, IsSomeAnd, ⊤, Contains, filter, nat_le, nat_lt}
 use Rattle.std.specs.Option.{option_or}
 use Rattle.std.specs.Ordering.{is_lt}
 use Rattle.index_config.proofs.Ranges.{accepted-ranges}
@@ -15,13 +15,14 @@ use Rattle.index_config.specs.declared.config.Policy.TheVariants.{StableLog, Lim
 use Rattle.merge_policy.specs.Choice.{is_candidate, is_of_level, level_rows, max_merge_factor, merge_factor, row_order}
 use Rattle.merge_policy.specs.Chosen.{fits_split, fitting, given, in_order, least_given, level_count, with_row}
 use Rattle.meta_journal.specs.declared.entry.Act.{Act}
-use Rattle.meta_journal.specs.declared.entry.Act.TheVariants.{Replace}
+use Rattle.meta_journal.specs.declared.entry.Act.TheVariants.{Replace, Stage}
 use Rattle.meta_journal.specs.declared.entry.Entry.{Entry}
 use Rattle.meta_store.proofs.Answered.{answered}
 use Rattle.meta_store.proofs.Numbers.{each_found, fresh_spans}
 use Rattle.meta_store.proofs.RowLists.{EachNumberOnce, the_row}
 use Rattle.meta_store.proofs.Sound.{sound}
-use Rattle.meta_store.specs.History.{history, last_opstamp, moment_of, stamp_of}
+use Rattle.meta_store.specs.Answers as answers
+use Rattle.meta_store.specs.History.{history, last_number, last_opstamp, moment_of, stamp_of}
 use Rattle.meta_store.specs.Planning.{config_fits, is_within, policy_fits, rows_for, rows_of}
 use Rattle.meta_store.specs.Readings.{config_of, reading_of}
 use Rattle.meta_store.specs.Rows.{rows}
@@ -29,10 +30,14 @@ use Rattle.meta_store.specs.State.{Legal, MayCome, MayFollow, state_of}
 use Rattle.meta_store.specs.declared.config.Config.{Config}
 use Rattle.meta_store.specs.declared.planning.Choice.TheVariants as choices
 use Rattle.meta_store.specs.declared.refusal.Refusal.{Refusal}
-use Rattle.source_checkpoint.specs.Deltas.{spans_of}
-use Rattle.split_states.specs.Answers.{AreApart, IsIn, IsRow, Repeats}
+use Rattle.meta_store.specs.declared.refusal.Refusal.TheVariants.{MomentBack, NotNext, TooManyRows, UptoAhead}
+use Rattle.meta_store.specs.declared.refusal.Refusal.TheVariants.{State as BadState}
+use Rattle.source_checkpoint.specs.Deltas.{answer_to_delta, spans_of, then_answer}
+use Rattle.source_checkpoint.specs.declared.delta.Part.{Part}
+use Rattle.split_states.specs.Answers.{AreApart, IsIn, IsRow, Repeats, answer_to_replace}
 use Rattle.split_states.specs.Rows.{row_at}
 use Rattle.split_states.specs.declared.facts.RowFacts.{RowFacts}
+use Rattle.split_states.specs.declared.refusal.StateRefusal.{StateRefusal}
 use Rattle.split_states.specs.declared.rows.Row.{Row}
 use Rattle.split_states.specs.declared.rows.RowState.{RowState}
 use Rattle.split_states.specs.declared.rows.RowState.TheVariants.{Marked, Published, Staged}
@@ -51,7 +56,7 @@ use Rattle.upkeep_run.proofs.PlannedRows.{FitIf, least_fit, named}
 use Rattle.upkeep_run.specs.Places.{row_numbers}
 use Rattle.upkeep_run.specs.Steps.{rows_in}
 use Rattle.upkeep_run.specs.declared.work.Aim.TheVariants.{Merging}
-use Rattle.quick_node.specs.Replaces.{IsHindered, chosen_by}
+use Rattle.quick_node.specs.Replaces.{IsCrowded, IsHindered, IsRefused, chosen_by}
 use Rattle.quick_node.proofs.Files.{create_still}
 
 -- ---- an entry
@@ -173,12 +178,71 @@ each_or list (n ∷ old) = by (in_or Published list n) (each_or list old)
 false_is_true : false ≡ true → ⊥
 false_is_true e = cc
 
+ok_is_err : (refusal : Refusal) → ◌≡◌ {A = Result (Unit {0}) Refusal} (Ok tt) (Err refusal) → ⊥
+ok_is_err refusal e = cc
+
+refusal_same : (a b : Refusal) → ◌≡◌ {A = Result (Unit {0}) Refusal} (Err a) (Err b) → a ≡ b
+refusal_same a b e = cc
+
+abbrev Refused_so : List Row → ℕ → List ℕ → Refusal → Type 0
+Refused_so list n old refusal = (reason : StateRefusal) × (answer_to_replace list n old ≡ Err reason) × (refusal ≡ BadState reason)
+
+abbrev Crowded_so : List Row → Refusal → Type 0
+Crowded_so list refusal = (100000 ≤ length list) × (refusal ≡ TooManyRows (length list))
+
 no_ok : (refusal : Refusal) (r : Result (Unit {0}) Refusal) → r ≡ Err refusal → IsOk r → ⊥
 no_ok refusal (Ok done) e ok = absurd (err_apart done refusal e)
   where
     err_apart : (done : Unit {0}) (e : Refusal) → ◌≡◌ {A = Result (Unit {0}) Refusal} (Ok done) (Err e) → ⊥
     err_apart done e same = cc
 no_ok refusal (Err other) e ok = false_is_true ok
+
+-- an answer behind a configuration, where the moment doesn't fall
+module _ (es : List Entry) (moment : ℕ) (legal : Legal reads (history es)) (some : 0 < length es) (late : moment_of (history es) ≤ moment) where
+  begun_here : Begun (history es)
+  begun_here = begun_history (history es) legal (let r = revision_is es in omega (arith, r, some))
+
+  abbrev Answering : (act : Act) → Option Config → Result (Unit {0}) Refusal
+  Answering act c = answers.answer_by (reading_of reads c act) c (state_of reads (history es)) moment act
+
+  answer_here : (act : Act) → answer_behind es (record { moment = moment; act = act }) ≡ Answering act (Some begun_here.config)
+  answer_here act =
+      ap (λ (b : Bool). then_answer (cond b (Err (MomentBack moment (moment_of (history es)))) (Ok tt)) (Answering act (config_of reads (history es)))) (le-ltb moment (moment_of (history es)) late)
+      ∙ ap (Answering act) begun_here.is
+
+  -- by what the rows answer
+  replace_by_rows : (n : ℕ) (old : List ℕ) (refusal : Refusal) (r : Result (Unit {0}) StateRefusal) → answer_to_replace (rows (history es)) n old ≡ r →
+      then_answer (answers.in_state r) (answers.answer_to_upto 0 (last_opstamp (history es))) ≡ Err refusal → Refused_so (rows (history es)) n old refusal
+  replace_by_rows n old refusal (Ok done) is e =
+      absurd (ok_is_err refusal (ap (λ (b : Bool). cond b (Err (UptoAhead 0 (last_opstamp (history es)))) (Ok tt)) (sym (le-ltb (last_opstamp (history es)) 0 (omega arith))) ∙ e))
+  replace_by_rows n old refusal (Err reason) is e = (reason, is, refusal_same refusal (BadState reason) (sym e))
+
+  pub is_refused : (n : ℕ) (old : List ℕ) (refusal : Refusal) → answer_behind es (record { moment = moment; act = Replace n old 0 }) ≡ Err refusal → IsRefused (length es) es n old refusal
+  is_refused n old refusal e =
+      subst (λ (xs : List Entry). Refused_so (rows (history xs)) n old refusal) (sym (take-length es))
+      (replace_by_rows n old refusal (answer_to_replace (rows (history es)) n old) refl (sym (answer_here (Replace n old 0)) ∙ e))
+
+  pub is_crowded : (delta : List Part) (facts : RowFacts) (refusal : Refusal) → delta ≡ [] → answer_behind es (record { moment = moment; act = Stage (last_number (history es) + 1) delta facts }) ≡ Err refusal →
+      IsCrowded (length es) es refusal
+  is_crowded delta facts refusal none e =
+      subst (λ (xs : List Entry). Crowded_so (rows (history xs)) refusal) (sym (take-length es)) (by (nat_lt (length (rows (history es))) 100000) refl (staged_rows ∙ e))
+    where
+      next : ℕ
+      next = last_number (history es) + 1
+
+      rest : Result (Unit {0}) Refusal
+      rest = then_answer (answers.in_delta (answer_to_delta [] delta)) (answers.answer_to_rows (length (rows (history es))))
+
+      staged_rows : answers.answer_to_rows (length (rows (history es))) ≡ answer_behind es (record { moment = moment; act = Stage next delta facts })
+      staged_rows =
+          ap (λ (d : List Part). then_answer (answers.in_delta (answer_to_delta [] d)) (answers.answer_to_rows (length (rows (history es))))) (sym none)
+          ∙ ap (λ (b : Bool). then_answer (cond b (Ok tt) (Err (NotNext next next))) rest) (sym (eq-eqb next next refl))
+          ∙ sym (answer_here (Stage next delta facts))
+
+      by : (b : Bool) → nat_lt (length (rows (history es))) 100000 ≡ b → answers.answer_to_rows (length (rows (history es))) ≡ Err refusal → Crowded_so (rows (history es)) refusal
+      by true t k = absurd (ok_is_err refusal (ap (λ (b : Bool). cond b (Ok tt) (Err (TooManyRows (length (rows (history es)))))) (sym t) ∙ k))
+      by false t k =
+          (ltb-false (length (rows (history es))) 100000 t, refusal_same refusal (TooManyRows (length (rows (history es)))) (sym (ap (λ (b : Bool). cond b (Ok tt) (Err (TooManyRows (length (rows (history es)))))) (sym t) ∙ k)))
 
 module _ (es : List Entry) (moment n : ℕ) (old : List ℕ) (facts : RowFacts) (legal : Legal reads (history es)) (some : 0 < length es) (late : moment_of (history es) ≤ moment) (staged : HasStaged es n [] facts) (any : old ≢ [])
     (apart : AreApart old) where

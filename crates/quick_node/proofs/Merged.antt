@@ -5,7 +5,7 @@ use Rattle.std.proofs.lemmas.Bool.{leb-true}
 use Rattle.std.proofs.lemmas.List.{append-nil, length-append, length-map, take-append-le}
 use Rattle.std.specs.List.{AllByRecursion}
 use Rattle.std.specs.Prelude.{◌==◌, ◌||◌, Option, Some, None, Result, Ok, Err, ⊤, Contains, nat_le, slice_get}
-use Rattle.meta_journal.specs.declared.entry.Act.TheVariants.{Replace}
+use Rattle.meta_journal.specs.declared.entry.Act.TheVariants.{Replace, Stage}
 use Rattle.meta_journal.specs.declared.entry.Entry.{Entry}
 use Rattle.meta_store.proofs.Numbers.{history-snoc}
 use Rattle.meta_store.proofs.Staged.{HasStaged-more}
@@ -14,7 +14,9 @@ use Rattle.meta_store.specs.History.History.{◌▸◌}
 use Rattle.meta_store.specs.Rows.{rows}
 use Rattle.meta_store.specs.State.{Legal}
 use Rattle.source_log.specs.Log.{Log}
-use Rattle.split_states.specs.Answers.{AreApart, IsIn}
+use Rattle.meta_store.specs.declared.refusal.Refusal.{Refusal}
+use Rattle.meta_store.specs.declared.refusal.Refusal.TheVariants.{TooManyRows}
+use Rattle.split_states.specs.Answers.{AreApart, IsIn, answer_to_replace}
 use Rattle.split_states.specs.declared.facts.RowFacts.{RowFacts}
 use Rattle.split_states.specs.declared.rows.Row.{Row}
 use Rattle.split_states.specs.declared.rows.RowState.TheVariants.{Published, Staged}
@@ -42,14 +44,14 @@ use Rattle.node_run.specs.Turns.{Luck as LineLuck, Turn, Turned, Turns, assign_a
 use Rattle.node_run.proofs.CallMoves.{Grows, asked_and_looked_moves}
 use Rattle.node_run.proofs.Moving.{turn_later, turns_later}
 use Rattle.node_run.proofs.WorkerMoves.{fetched_same, planned_same, replaced_same, staged_same, uploaded_same}
-use Rattle.quick_node.specs.Replaces.{IsHindered, Merged, Replaces, ReplacesFrom, Rested, Rests, RestsFrom, chosen_at, chosen_by}
+use Rattle.quick_node.specs.Replaces.{IsCrowded, IsHindered, IsRefused, Merged, Replaces, ReplacesFrom, Rested, Rests, RestsFrom, chosen_at, chosen_by}
 use Rattle.quick_node.specs.Reading.{Ending, stopped, ReadsFrom, fit_if, fit_of, fits, falls_or_unknown, last_moment, raw_lines}
 use Rattle.quick_node.specs.Serve.{IsPrefixOf, Before, After, End, by_reading, no_index, opening_failed, read_failed, write_failed, out_of_memory, HasEnd, IsFresh, Answers, RanShort, Lives}
 use Rattle.quick_node.proofs.Clocks.{turn_ticks}
 use Rattle.quick_node.proofs.EntryRows.{legal_before}
-use Rattle.quick_node.proofs.Files.{IsTimed, asked_and_looked_one, begun_still, loaded_few}
+use Rattle.quick_node.proofs.Files.{IsTimed, appended_few, asked_and_looked_one, begun_still, loaded_few}
 use Rattle.quick_node.proofs.Living.{opens_moves}
-use Rattle.quick_node.proofs.MergeCalls.{Appends, Picks, appended_says, is_hindered, picks, picks_none}
+use Rattle.quick_node.proofs.MergeCalls.{Appends, Picks, appended_says, is_crowded, is_hindered, is_refused, picks, picks_none}
 use Rattle.quick_node.proofs.Names.{moments_go_on}
 use Rattle.quick_node.proofs.Searching.{prefix_on}
 use Rattle.quick_node.proofs.Timing.{Rises, asked_late, turn_timed}
@@ -128,6 +130,16 @@ module _ (entries exit : List Entry) (p : IsPrefixOf entries exit) (clock least 
   chosen_on revision short =
       ap (λ (es : List Entry). chosen_by (config_or (configuration es)) (max clock (moment_of (history es))) es) (same_front revision short)
 
+  refused_on : (revision number : ℕ) (old : List ℕ) (refusal : Refusal) → revision ≤ length entries → IsRefused revision entries number old refusal → IsRefused revision exit number old refusal
+  refused_on revision number old refusal short h = (h.0, ap (λ (es : List Entry). answer_to_replace (rows (history es)) number old) (same_front revision short) ∙ h.1, h.2)
+
+  crowded_on : (revision : ℕ) (refusal : Refusal) → revision ≤ length entries → IsCrowded revision entries refusal → IsCrowded revision exit refusal
+  crowded_on revision refusal short h =
+      let e = ap (λ (es : List Entry). length (rows (history es))) (same_front revision short) in let many = h.0 in (omega (arith, e, many), h.1 ∙ ap TooManyRows (sym e))
+
+  entry_on : (place : ℕ) (entry : Entry) → slice_get entries place ≡ Some entry → slice_get exit place ≡ Some entry
+  entry_on place entry e = ap (λ (es : List Entry). slice_get es place) p.1 ∙ front_at entries p.0 place entry e
+
   hindered_on : (revision number : ℕ) (old : List ℕ) → revision ≤ length entries → IsHindered revision entries number old → IsHindered revision exit number old
   hindered_on revision number old short h = subst (λ (es : List Entry). Hindered es) (sym (same_front revision short)) h
     where
@@ -138,13 +150,13 @@ module _ (entries exit : List Entry) (p : IsPrefixOf entries exit) (clock least 
   merged_on plan planned said.Nothing m = m
   merged_on plan planned (said.Planned count) m = (m.0, omega (arith, le, m.1), m.2, chosen_on m.0 m.2 ∙ m.3, m.4)
   merged_on plan planned (said.Fetched number) m = m
-  merged_on plan planned (said.Staged number) m = m
+  merged_on plan planned (said.Staged number) m = let r = m.3 in (m.0, omega (arith, le, m.1), m.2, (r.0, r.1, entry_on m.0 r.0 r.2, r.3), m.4)
   merged_on plan planned (said.Uploaded number) m = m
   merged_on plan planned (said.Replaced number) m =
-      let r = m.3 in (m.0, omega (arith, le, m.1), m.2, (r.0, ap (λ (es : List Entry). slice_get es m.0) p.1 ∙ front_at entries p.0 m.0 r.0 r.1, r.2), m.4)
+      let r = m.3 in (m.0, omega (arith, le, m.1), m.2, (r.0, entry_on m.0 r.0 r.1, r.2), m.4)
   merged_on plan planned (said.Raised number) m = m
-  merged_on plan planned (said.Lost number refusal) m = (m.0, omega (arith, le, m.1), m.2, hindered_on m.0 number plan m.2 m.3, m.4)
-  merged_on plan planned (said.Refused refusal) m = m
+  merged_on plan planned (said.Lost number refusal) m = (m.0, omega (arith, le, m.1), m.2, hindered_on m.0 number plan m.2 m.3, refused_on m.0 number plan refusal m.2 m.4, m.5)
+  merged_on plan planned (said.Refused refusal) m = (m.0, omega (arith, le, m.1), m.2, crowded_on m.0 refusal m.2 m.3, m.4)
   merged_on plan planned (said.Faulted fault) m = m
 
   rested_on : (outcome : UpkeepOutcome) → Rested entries clock least (length entries) outcome → Rested exit clock lower (length entries) outcome
@@ -239,10 +251,15 @@ module _ (start : Core) (clock : ℕ) (plan : List ℕ) where
 
     -- ---- a replacement is staged
 
-    stage_did : (r : Result ⊤ Unmade) (work : Work) (before : Core) → HoldsWork plan work → Appends (stage_act [] (held_facts (held_of Merging work before 0))) start r core → DidStep start clock plan (stage_by r (held_of Merging work before) core)
-    stage_did (Ok done) work before h a o e =
+    stage_did : (r : Result ⊤ Unmade) (work : Work) (before : Core) → HoldsWork plan work → IsTimed core → Appends (stage_act [] (held_facts (held_of Merging work before 0))) start r core → DidStep start clock plan (stage_by r (held_of Merging work before) core)
+    stage_did (Ok done) work before h t a o e =
         said_is (said.Staged (last_number (history core.history))) (staged (held_of Merging work before (last_number (history core.history)))) core
-        (record { planned = plan; merged = refl; rested = tt; holds = record { is_plan = h.is_plan; old = h.rows; upto = refl; staged = there } }) o e
+        (record {
+          planned = plan;
+          merged = (length c.history, longer start.history c.history a.1, below, (new, facts, new_at, ap (λ (k : ℕ). Stage k [] facts) (sym number_is)), refl);
+          rested = tt;
+          holds = record { is_plan = h.is_plan; old = h.rows; upto = refl; staged = there };
+        }) o e
       where
         facts : RowFacts
         facts = held_facts (held_of Merging work before 0)
@@ -252,6 +269,12 @@ module _ (start : Core) (clock : ℕ) (plan : List ℕ) where
 
         new : Entry
         new = entry_of (stage_act [] facts c) c
+
+        below : length c.history < length core.history
+        below = let l : length core.history ≡ length c.history + 1 = ap length a.2 ∙ length-append c.history (new ∷ []) in omega (arith, l)
+
+        new_at : slice_get core.history (length c.history) ≡ Some new
+        new_at = ap (λ (es : List Entry). slice_get es (length c.history)) a.2 ∙ last_at c.history new
 
         both : Legal reads (history c.history ▸ new)
         both = subst (Legal reads) (history-snoc c.history new) (subst (λ (es : List Entry). Legal reads (history es)) a.2 legal)
@@ -266,9 +289,15 @@ module _ (start : Core) (clock : ℕ) (plan : List ℕ) where
             subst (λ (n : ℕ). HasStaged core.history n [] facts) (sym number_is)
             (subst (λ (es : List Entry). HasStaged es (last_number (history c.history) + 1) [] facts) (sym a.2)
             (HasStaged-new c.history c.moment (last_number (history c.history) + 1) [] facts both.0 both.1))
-    stage_did (Err (refused refusal)) work before h a o e =
-        said_is (said.Refused refusal) idle core (record { planned = plan; merged = refl; rested = tt; holds = tt }) o e
-    stage_did (Err (troubled trouble)) work before h a o e = trouble_did trouble core o e
+    stage_did (Err (refused refusal)) work before h t a o e =
+        said_is (said.Refused refusal) idle core
+        (record {
+          planned = plan;
+          merged = (length core.history, up, omega arith, is_crowded core.history core.moment legal some t.least [] (held_facts (held_of Merging work before 0)) refusal refl a.1, refl);
+          rested = tt;
+          holds = tt;
+        }) o e
+    stage_did (Err (troubled trouble)) work before h t a o e = trouble_did trouble core o e
 
     -- ---- its file is made
 
@@ -298,7 +327,7 @@ module _ (start : Core) (clock : ℕ) (plan : List ℕ) where
         there = ap (λ (es : List Entry). slice_get es (length a.0.history)) a.2 ∙ last_at a.0.history new
     replace_did (Err (refused refusal)) held h t a o e =
         said_is (said.Lost held.number refusal) idle core
-        (record { planned = plan; merged = (length core.history, up, omega arith, hindered, refl); rested = tt; holds = tt }) o e
+        (record { planned = plan; merged = (length core.history, up, omega arith, hindered, is_refused core.history core.moment legal some t.least held.number plan refusal same, refl); rested = tt; holds = tt }) o e
       where
         same : answer_behind core.history (record { moment = core.moment; act = Replace held.number plan 0 }) ≡ Err refusal
         same = ap₂ (λ (old : List ℕ) (upto : ℕ). answer_behind core.history (record { moment = core.moment; act = Replace held.number old upto })) (sym h.old) (sym h.upto) ∙ a.1
@@ -332,7 +361,7 @@ module _ (luck : Luck) (log : Log) (start : Core) (clock : ℕ) (plan : List ℕ
       let given = stage_call [] (held_facts (held_of Merging work start 0)) luck.world start in
       let same = staged_same given.answer (held_of Merging work start) given.core in
       stage_did start clock plan given.core (up given.core (subst (Grows start) same g)) (subst (λ (c : Core). Legal reads (history c.history)) same legal) (more given.core (subst (Grows start) same g)) given.answer work start h
-      (appended_says (stage_act [] (held_facts (held_of Merging work start 0))) luck.world start)
+      ((appended_few (stage_act [] (held_facts (held_of Merging work start 0))) (λ c. tt) luck.world start).timed t) (appended_says (stage_act [] (held_facts (held_of Merging work start 0))) luck.world start)
   work_did work (row ∷ rest) is h legal g =
       let given = fetched (grace_in work) luck.world start in
       let same = fetched_same given.answer work row.number rest given.core in

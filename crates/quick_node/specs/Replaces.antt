@@ -1,12 +1,17 @@
 -- What each outcome of a merger comes from, by the lines and the journal alone.
-use Rattle.std.specs.Prelude.{◌≡◌, ◌⊎◌, ℕ, ◌<◌, ◌≤◌, max, List, [], ◌∷◌, length, take, slice_get, Option, Some, None, Contains}
+use Rattle.std.specs.Prelude.{◌≡◌, ◌⊎◌, ℕ, ◌<◌, ◌≤◌, max, List, [], ◌∷◌, length, take, slice_get, Option, Some, None, Err, Contains}
 use Rattle.index_config.specs.declared.config.IndexConfig.{IndexConfig}
 use Rattle.merge_policy.specs.Chosen.{chosen}
-use Rattle.meta_journal.specs.declared.entry.Act.TheVariants.{Replace}
+use Rattle.meta_journal.specs.declared.entry.Act.TheVariants.{Replace, Stage}
 use Rattle.meta_journal.specs.declared.entry.Entry.{Entry}
 use Rattle.meta_store.specs.History.{history, moment_of}
 use Rattle.meta_store.specs.Rows.{rows}
-use Rattle.split_states.specs.Answers.{IsIn}
+use Rattle.meta_store.specs.declared.refusal.Refusal.{Refusal}
+use Rattle.meta_store.specs.declared.refusal.Refusal.TheVariants.{TooManyRows}
+use Rattle.meta_store.specs.declared.refusal.Refusal.TheVariants.{State as BadState}
+use Rattle.split_states.specs.Answers.{IsIn, answer_to_replace}
+use Rattle.split_states.specs.declared.facts.RowFacts.{RowFacts}
+use Rattle.split_states.specs.declared.refusal.StateRefusal.{StateRefusal}
 use Rattle.split_states.specs.declared.rows.RowState.{RowState}
 use Rattle.split_states.specs.declared.rows.RowState.TheVariants.{Staged, Published}
 use Rattle.index_world.specs.Configuration.{configuration, config_or}
@@ -37,6 +42,10 @@ chosen_at clock revision entries = chosen_by (config_or (configuration (take rev
 abbrev pub IsReplacing : List Entry → (place number : ℕ) → (old : List ℕ) → Type 0
 IsReplacing entries place number old = (entry : Entry) × (slice_get entries place ≡ Some entry) × (entry.act ≡ Replace number old 0)
 
+-- or stages a row without records of its own
+abbrev pub IsStaging : List Entry → (place number : ℕ) → Type 0
+IsStaging entries place number = (entry : Entry) × (facts : RowFacts) × (slice_get entries place ≡ Some entry) × (entry.act ≡ Stage number [] facts)
+
 -- behind so many entries the row of a number stands in this state
 abbrev pub IsThen : RowState → (revision : ℕ) → List Entry → ℕ → Type 0
 IsThen state revision entries number = IsIn state (rows (history (take revision entries))) number
@@ -45,21 +54,31 @@ IsThen state revision entries number = IsIn state (rows (history (take revision 
 abbrev pub IsHindered : (revision : ℕ) → List Entry → (number : ℕ) → (old : List ℕ) → Type 0
 IsHindered revision entries number old = (IsThen Staged revision entries number → ⊥) ⊎ ((one : ℕ) × Contains old one × (IsThen Published revision entries one → ⊥))
 
+-- it is refused with the first reason that the rows give
+abbrev pub IsRefused : (revision : ℕ) → List Entry → (number : ℕ) → (old : List ℕ) → Refusal → Type 0
+IsRefused revision entries number old refusal =
+    (reason : StateRefusal) × (answer_to_replace (rows (history (take revision entries))) number old ≡ Err reason) × (refusal ≡ BadState reason)
+
+-- behind so many entries no row more may be staged
+abbrev pub IsCrowded : (revision : ℕ) → List Entry → Refusal → Type 0
+IsCrowded revision entries refusal = (100000 ≤ length (rows (history (take revision entries)))) × (refusal ≡ TooManyRows (length (rows (history (take revision entries)))))
+
 -- What a merger said is what it did, in a line that begins behind `least` entries and ends behind `next`, where it had planned the rows `plan` and
--- behind it those of `planned`. The rows of a plan are those that the policy chose then. A Replace is an entry of this line, and replaces exactly
--- these. A merge is lost only where at a revision of this line the journal doesn't allow it.
+-- behind it those of `planned`. The rows of a plan are those that the policy chose then. What it staged and replaced is an entry of this line, and it
+-- replaces exactly these. A merge is lost only where at a revision of this line the journal doesn't allow it, and refused only where no row more may be
+-- staged.
 abbrev pub Merged : List Entry → (clock least next : ℕ) → (plan planned : List ℕ) → UpkeepOutcome → Type 0
 Merged entries clock least next plan planned working.Nothing = planned ≡ plan
 Merged entries clock least next plan planned (working.Planned count) =
     (revision : ℕ) × (least ≤ revision) × (revision ≤ next) × (chosen_at clock revision entries ≡ Some planned) × (length planned ≡ count)
 Merged entries clock least next plan planned (working.Fetched number) = Contains plan number × (planned ≡ plan)
-Merged entries clock least next plan planned (working.Staged number) = planned ≡ plan
+Merged entries clock least next plan planned (working.Staged number) = (place : ℕ) × (least ≤ place) × (place < next) × IsStaging entries place number × (planned ≡ plan)
 Merged entries clock least next plan planned (working.Uploaded number) = planned ≡ plan
 Merged entries clock least next plan planned (working.Replaced number) = (place : ℕ) × (least ≤ place) × (place < next) × IsReplacing entries place number plan × (planned ≡ plan)
 Merged entries clock least next plan planned (working.Raised number) = ⊥
 Merged entries clock least next plan planned (working.Lost number refusal) =
-    (revision : ℕ) × (least ≤ revision) × (revision ≤ next) × IsHindered revision entries number plan × (planned ≡ plan)
-Merged entries clock least next plan planned (working.Refused refusal) = planned ≡ plan
+    (revision : ℕ) × (least ≤ revision) × (revision ≤ next) × IsHindered revision entries number plan × IsRefused revision entries number plan refusal × (planned ≡ plan)
+Merged entries clock least next plan planned (working.Refused refusal) = (revision : ℕ) × (least ≤ revision) × (revision ≤ next) × IsCrowded revision entries refusal × (planned ≡ plan)
 Merged entries clock least next plan planned (working.Faulted fault) = planned ≡ plan
 
 -- other outcomes leave the plan
