@@ -51,7 +51,7 @@ stay_more (x ∷ xs) ys key bytes e = by (bytes_eq x.key key) (stay_more xs ys k
 
 -- ---- entries that are taken in
 
--- an entry that an actor of a node makes, or the making of an index
+-- an entry that marks no published row and changes what none holds
 abbrev pub IsOwn : Act → Type 0
 IsOwn Fence = ⊥
 IsOwn (Create config) = ⊤

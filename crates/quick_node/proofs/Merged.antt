@@ -221,9 +221,9 @@ module _ (start : Core) (clock : ℕ) (plan : List ℕ) where
           merged = (length core.history, up, omega arith, chosen_here moment (Some (row_numbers (row ∷ list))) k.chosen, length-map (row ∷ list) (λ (r : Row). r.number));
           rested = tt;
           holds = record {
-              is_plan = record { some = number_some; apart = k.apart };
-              rows = ap row_numbers rows;
-              left = subst (λ (l : List Row). AreOf (row_numbers (row ∷ list)) (row_numbers l)) (sym left) (all_of (row_numbers (row ∷ list)));
+            is_plan = record { some = number_some; apart = k.apart };
+            rows = ap row_numbers rows;
+            left = subst (λ (l : List Row). AreOf (row_numbers (row ∷ list)) (row_numbers l)) (sym left) (all_of (row_numbers (row ∷ list)));
           };
         }) o e
       where
