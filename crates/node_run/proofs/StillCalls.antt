@@ -174,15 +174,15 @@ module _ (log : Log) (core : Core) (s : IsStill core) where
       let given = raise_call number upto calm_fate core in
       handed given.core _ (raised_same given.answer number given.core) (appended_still (λ c. Raise number upto) core s)
 
-  choice_still : (b : Bool) (x y : working.Stepped) → IsStill x.core → IsStill y.core → IsStill (if b then x else y).core
-  choice_still true x y h k = h
-  choice_still false x y h k = k
+  either_still : (b : Bool) (x y : working.Stepped) → IsStill x.core → IsStill y.core → IsStill (if b then x else y).core
+  either_still true x y h k = h
+  either_still false x y h k = k
 
   closed_still : (aim : Aim) (work : workers.Work) → IsStill (working.step_close aim calm_working work core).core
   closed_still Merging work = staged_still (working.held_of Merging work core)
   closed_still Deleting work =
       let number = working.first_number work.rows in
-      choice_still (working.drops_none work core) (working.step_raise calm_working number work.upto core) (working.step_stage calm_working (working.held_of Deleting work core) core)
+      either_still (working.drops_none work core) (working.step_raise calm_working number work.upto core) (working.step_stage calm_working (working.held_of Deleting work core) core)
       (raised_still number work.upto) (staged_still (working.held_of Deleting work core))
 
   work_still : (aim : Aim) (work : workers.Work) (unfetched : List Row) → IsStill (working.step_work aim calm_working work unfetched core).core
