@@ -39,7 +39,7 @@ use Rattle.upkeep_run.specs.Outcomes as said
 use Rattle.upkeep_run.specs.Places.{Held, Place, Work, fetching, held_facts, held_file, idle, row_numbers, staged, uploaded}
 use Rattle.upkeep_run.specs.Steps.{Luck, Stepped, fetch_by, grace_in, held_of, or_short, plan_by, plan_with, replace_by, rows_in, stage_by, step_place, step_work, step_worker, trouble_outcome, upload_by, work_in}
 use Rattle.upkeep_run.specs.declared.work.Aim.TheVariants.{Merging, Deleting}
-use Rattle.node_run.specs.Node.{Node, Line, At, Assign, StepIndexer, RestartIndexer, RestartClient, StepMerger, RestartMerger, StepCollector, RestartCollector, RestartNode, Open, StepClient, Outcome, client_said, collector_said, indexer_said, worker_said}
+use Rattle.node_run.specs.Node.{Node, Line, At, Assign, StepIndexer, RestartIndexer, RestartClient, StepMerger, RestartMerger, StepCollector, RestartCollector, RestartNode, Open, StepClient, Outcome, client_said, collector_said, indexer_said, worker_said, worker_restarted, node_restarted, node_failed, world_fault, no_index}
 use Rattle.node_run.specs.Turns.{Luck as LineLuck, Turn, Turned, Turns, assign_at, client_named, client_turn_by, collector_turn_by, full_turn, indexer_at, indexer_turn_by, open_by, or_quiet, restart_by, said_by_client, said_by_collector, said_by_indexer, said_by_worker, turn_by, with_merger, worker_turn_by, working_luck}
 use Rattle.node_run.proofs.CallMoves.{Grows, asked_and_looked_moves}
 use Rattle.node_run.proofs.Moving.{turn_later, turns_later}
@@ -197,7 +197,7 @@ module _ (start : Core) (clock : ℕ) (plan : List ℕ) where
   said_is outcome place core d o e = subst (λ (x : UpkeepOutcome). Says x place core) (outcome_same outcome o e) d
 
   trouble_did : (trouble : Trouble) (core : Core) (o : UpkeepOutcome) → trouble_outcome trouble ≡ Some o → Says o idle core
-  trouble_did (faulted fault) core o e = said_is (said.Faulted fault) idle core (record { planned = plan; merged = refl; rested = tt; holds = tt }) o e
+  trouble_did (faulted fault) core o e = said_is (said.Faulted fault) idle core (record { planned = []; merged = refl; rested = tt; holds = tt }) o e
   trouble_did no_memory core o e = absurd (none_some o e)
 
   -- ---- a plan
@@ -213,7 +213,7 @@ module _ (start : Core) (clock : ℕ) (plan : List ℕ) where
     rows_did : core.moment ≡ max clock (moment_of (history core.history)) → (list : List Row) (work : Work) → rows_in Merging core ≡ list → work.rows ≡ list → work.unfetched ≡ list → DidStep start clock plan (plan_with list work core)
     rows_did moment [] work is rows left o e =
         said_is said.Nothing idle core
-        (record { planned = plan; merged = refl; rested = (length core.history, up, omega arith, chosen_here moment None (picks_none core legal some is)); holds = tt }) o e
+        (record { planned = []; merged = refl; rested = (length core.history, up, omega arith, chosen_here moment None (picks_none core legal some is)); holds = tt }) o e
     rows_did moment (row ∷ list) work is rows left o e =
         said_is (said.Planned (length (row ∷ list))) (fetching work) core
         (record {
@@ -292,7 +292,7 @@ module _ (start : Core) (clock : ℕ) (plan : List ℕ) where
     stage_did (Err (refused refusal)) work before h t a o e =
         said_is (said.Refused refusal) idle core
         (record {
-          planned = plan;
+          planned = [];
           merged = (length core.history, up, omega arith, is_crowded core.history core.moment legal some t.least [] (held_facts (held_of Merging work before 0)) refusal refl a.1, refl);
           rested = tt;
           holds = tt;
@@ -311,7 +311,7 @@ module _ (start : Core) (clock : ℕ) (plan : List ℕ) where
     replace_did (Ok done) held h t a o e =
         said_is (said.Replaced held.number) idle core
         (record {
-          planned = plan;
+          planned = [];
           merged = (length a.0.history, longer start.history a.0.history a.1, below, (new, there, ap₂ (λ (old : List ℕ) (upto : ℕ). Replace held.number old upto) h.old h.upto), refl);
           rested = tt;
           holds = tt;
@@ -327,7 +327,7 @@ module _ (start : Core) (clock : ℕ) (plan : List ℕ) where
         there = ap (λ (es : List Entry). slice_get es (length a.0.history)) a.2 ∙ last_at a.0.history new
     replace_did (Err (refused refusal)) held h t a o e =
         said_is (said.Lost held.number refusal) idle core
-        (record { planned = plan; merged = (length core.history, up, omega arith, hindered, is_refused core.history core.moment legal some t.least held.number plan refusal same, refl); rested = tt; holds = tt }) o e
+        (record { planned = []; merged = (length core.history, up, omega arith, hindered, is_refused core.history core.moment legal some t.least held.number plan refusal same, refl); rested = tt; holds = tt }) o e
       where
         same : answer_behind core.history (record { moment = core.moment; act = Replace held.number plan 0 }) ≡ Err refusal
         same = ap₂ (λ (old : List ℕ) (upto : ℕ). answer_behind core.history (record { moment = core.moment; act = Replace held.number old upto })) (sym h.old) (sym h.upto) ∙ a.1
@@ -404,13 +404,19 @@ record LineDid (start : Core) (clock : ℕ) (plan : List ℕ) (outcome : Outcome
   rests : Rests node.core.history clock (length start.history) (length node.core.history) outcome
   holds : Holds node.core.history planned node.merger
 
--- no worker said it
+-- no worker said it, and it drops no plan
 abbrev IsOther : Outcome → Type 0
 IsOther (worker_said aim outcome) = ⊥
+IsOther (worker_restarted aim) = ⊥
+IsOther (node_restarted revision) = ⊥
+IsOther (node_failed fault) = ⊥
 IsOther outcome = ⊤
 
 other_replaces : (entries : List Entry) (clock least next : ℕ) (plan : List ℕ) (outcome : Outcome) → IsOther outcome → Replaces entries clock least next plan plan outcome
 other_replaces entries clock least next plan (worker_said aim outcome) h = absurd h
+other_replaces entries clock least next plan (worker_restarted aim) h = absurd h
+other_replaces entries clock least next plan (node_restarted revision) h = absurd h
+other_replaces entries clock least next plan (node_failed fault) h = absurd h
 other_replaces entries clock least next plan outcome h = refl
 
 other_rests : (entries : List Entry) (clock least next : ℕ) (outcome : Outcome) → IsOther outcome → Rests entries clock least next outcome
@@ -433,6 +439,13 @@ module _ (start : Core) (clock : ℕ) (plan : List ℕ) where
         rests = other_rests new.core.history clock (length start.history) (length new.core.history) outcome o;
         holds = h;
       }
+
+  -- a restart
+  dropped_did : (said : Outcome) (new : Node) → Replaces new.core.history clock (length start.history) (length new.core.history) plan [] said → Rests new.core.history clock (length start.history) (length new.core.history) said →
+      new.merger ≡ idle → LineDidAll (record { said = Some said; node = new })
+  dropped_did said new r s is outcome e =
+      subst (λ (o : Outcome). LineDid start clock plan o new) (line_same said outcome e)
+      (record { planned = []; replaces = r; rests = s; holds = subst (Holds new.core.history []) (sym is) tt })
 
   unsaid_did : (new : Node) → LineDidAll (record { said = None; node = new })
   unsaid_did new outcome e = absurd (none_some outcome e)
@@ -465,9 +478,6 @@ module _ (luck : LineLuck) (node : Node) (clock : ℕ) (plan : List ℕ) (t : Is
       subst (Holds new.core.history plan) (sym same)
       (subst (λ (es : List Entry). Holds es plan node.merger) (sym g.1) (holds_on node.core.history g.0 plan node.merger (subst (λ (es : List Entry). Legal reads (history es)) g.1 legal) h))
 
-  idle_by : (new : Node) → new.merger ≡ idle → Holds new.core.history plan new.merger
-  idle_by new is = subst (Holds new.core.history plan) (sym is) tt
-
   indexer_line : (down : Bool) (i : ℕ) → FullDid (indexer_turn_by down luck i node)
   indexer_line true i legal g = other_did node.core clock plan _ node tt h
   indexer_line false i legal g = let turn = indexer_turn_by false luck i node in indexer_did node.core clock plan i _ turn.node (held_by turn.node refl legal g)
@@ -498,10 +508,10 @@ module _ (luck : LineLuck) (node : Node) (clock : ℕ) (plan : List ℕ) (t : Is
   open_line (searching.planned other) name text client legal g = other_did node.core clock plan _ node tt h
 
   restart_line : (r : Result ⊤ Unread) (core : Core) → FullDid (restart_by r core node)
-  restart_line (Ok done) core legal g = other_did node.core clock plan _ _ tt tt
-  restart_line (Err (not_read (faulted fault))) core legal g = other_did node.core clock plan _ _ tt tt
+  restart_line (Ok done) core legal g = dropped_did node.core clock plan (node_restarted (length core.history)) _ refl tt refl
+  restart_line (Err (not_read (faulted fault))) core legal g = dropped_did node.core clock plan (node_failed (world_fault fault)) _ refl tt refl
   restart_line (Err (not_read no_memory)) core legal g = unsaid_did node.core clock plan _
-  restart_line (Err calls.no_index) core legal g = other_did node.core clock plan _ _ tt tt
+  restart_line (Err calls.no_index) core legal g = dropped_did node.core clock plan (node_failed no_index) _ refl tt refl
 
   full_did : (line : Line) → last_moment node.core.clock (line ∷ []) ≡ clock → FullDid (full_turn luck node line)
   full_did (At moment) told legal g = let turn = full_turn luck node (At moment) in other_did node.core clock plan _ turn.node tt h
@@ -510,7 +520,7 @@ module _ (luck : LineLuck) (node : Node) (clock : ℕ) (plan : List ℕ) (t : Is
   full_did (RestartIndexer i) told legal g = let turn = full_turn luck node (RestartIndexer i) in other_did node.core clock plan _ turn.node tt h
   full_did (RestartClient name) told legal g = let turn = full_turn luck node (RestartClient name) in other_did node.core clock plan _ turn.node tt h
   full_did StepMerger told legal g = merger_line node.down told legal g
-  full_did RestartMerger told legal g = let turn = full_turn luck node RestartMerger in other_did node.core clock plan _ turn.node tt tt
+  full_did RestartMerger told legal g = let turn = full_turn luck node RestartMerger in dropped_did node.core clock plan (worker_restarted Merging) turn.node refl tt refl
   full_did StepCollector told legal g = collector_line node.down legal g
   full_did RestartCollector told legal g = other_did node.core clock plan _ node tt h
   full_did RestartNode told legal g = let given = loaded luck.world node.core in restart_line given.answer given.core legal g

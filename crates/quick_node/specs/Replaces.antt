@@ -19,7 +19,7 @@ use Rattle.upkeep_run.specs.Outcomes.{UpkeepOutcome}
 use Rattle.upkeep_run.specs.Outcomes as working
 use Rattle.upkeep_run.specs.declared.work.Aim.{Aim}
 use Rattle.upkeep_run.specs.declared.work.Aim.TheVariants.{Merging, Deleting}
-use Rattle.node_run.specs.Node.{Line, Outcome, worker_said}
+use Rattle.node_run.specs.Node.{Line, Outcome, worker_said, worker_restarted, node_restarted, node_failed}
 use Rattle.quick_node.specs.Reading.{last_moment}
 
 -- ---- the rows that are chosen
@@ -64,26 +64,29 @@ abbrev pub IsCrowded : (revision : ℕ) → List Entry → Refusal → Type 0
 IsCrowded revision entries refusal = (100000 ≤ length (rows (history (take revision entries)))) × (refusal ≡ TooManyRows (length (rows (history (take revision entries)))))
 
 -- What a merger said is what it did, in a line that begins behind `least` entries and ends behind `next`, where it had planned the rows `plan` and
--- behind it those of `planned`. The rows of a plan are those that the policy chose then. What it staged and replaced is an entry of this line, and it
+-- behind it those of `planned`, or none where it is idle. The rows of a plan are those that the policy chose then. What it staged and replaced is an entry of this line, and it
 -- replaces exactly these. A merge is lost only where at a revision of this line the journal doesn't allow it, and refused only where no row more may be
 -- staged.
 abbrev pub Merged : List Entry → (clock least next : ℕ) → (plan planned : List ℕ) → UpkeepOutcome → Type 0
-Merged entries clock least next plan planned working.Nothing = planned ≡ plan
+Merged entries clock least next plan planned working.Nothing = planned ≡ []
 Merged entries clock least next plan planned (working.Planned count) =
     (revision : ℕ) × (least ≤ revision) × (revision ≤ next) × (chosen_at clock revision entries ≡ Some planned) × (length planned ≡ count)
 Merged entries clock least next plan planned (working.Fetched number) = Contains plan number × (planned ≡ plan)
 Merged entries clock least next plan planned (working.Staged number) = (place : ℕ) × (least ≤ place) × (place < next) × IsStaging entries place number × (planned ≡ plan)
 Merged entries clock least next plan planned (working.Uploaded number) = planned ≡ plan
-Merged entries clock least next plan planned (working.Replaced number) = (place : ℕ) × (least ≤ place) × (place < next) × IsReplacing entries place number plan × (planned ≡ plan)
+Merged entries clock least next plan planned (working.Replaced number) = (place : ℕ) × (least ≤ place) × (place < next) × IsReplacing entries place number plan × (planned ≡ [])
 Merged entries clock least next plan planned (working.Raised number) = ⊥
 Merged entries clock least next plan planned (working.Lost number refusal) =
-    (revision : ℕ) × (least ≤ revision) × (revision ≤ next) × IsHindered revision entries number plan × IsRefused revision entries number plan refusal × (planned ≡ plan)
-Merged entries clock least next plan planned (working.Refused refusal) = (revision : ℕ) × (least ≤ revision) × (revision ≤ next) × IsCrowded revision entries refusal × (planned ≡ plan)
-Merged entries clock least next plan planned (working.Faulted fault) = planned ≡ plan
+    (revision : ℕ) × (least ≤ revision) × (revision ≤ next) × IsHindered revision entries number plan × IsRefused revision entries number plan refusal × (planned ≡ [])
+Merged entries clock least next plan planned (working.Refused refusal) = (revision : ℕ) × (least ≤ revision) × (revision ≤ next) × IsCrowded revision entries refusal × (planned ≡ [])
+Merged entries clock least next plan planned (working.Faulted fault) = planned ≡ []
 
--- other outcomes leave the plan
+-- A restart drops the plan, and other outcomes leave it.
 abbrev pub Replaces : List Entry → (clock least next : ℕ) → (plan planned : List ℕ) → Outcome → Type 0
 Replaces entries clock least next plan planned (worker_said Merging outcome) = Merged entries clock least next plan planned outcome
+Replaces entries clock least next plan planned (worker_restarted Merging) = planned ≡ []
+Replaces entries clock least next plan planned (node_restarted revision) = planned ≡ []
+Replaces entries clock least next plan planned (node_failed fault) = planned ≡ []
 Replaces entries clock least next plan planned outcome = planned ≡ plan
 
 -- Where nothing was to be done, the policy chose no rows at a revision and the moment of this line.
