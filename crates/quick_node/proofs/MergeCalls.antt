@@ -345,8 +345,8 @@ with_apart row (other ∷ list) lacks a =
     by (is_lt (row_order row other)) (with_lacks row list other.number away a.0) (with_apart row list p.1 a.1)
   where
     by : (b : Bool) → Lacks (with_row row list) other.number → Apart (with_row row list) → Apart (cond b (row ∷ other ∷ list) (other ∷ with_row row list))
-    by true here rest = (lacks, a)
-    by false here rest = (here, rest)
+    by true before rest = (lacks, a)
+    by false before rest = (before, rest)
 
 order_lacks : (list : List Row) (n : ℕ) → Lacks list n → Lacks (in_order list) n
 order_lacks [] n e = refl
