@@ -56,6 +56,9 @@ default_search_fields = ["body"]
 
 [indexing_settings]
 split_num_docs_target = 500
+
+[indexing_settings.merge_policy]
+merge_factor = 3
 END
 same 'create' "$(poltyqen create < demo/config.toml)" created
 same 'create a second time' "$(poltyqen create < demo/config.toml || true)" 'error 9 indexexists'
@@ -71,6 +74,24 @@ same 'a range, the greatest first' "$(asked '{"search":{"query":"size:[1000 TO 2
     "$(told 'sorted((r["size"] for r in records if 1000 <= r["size"] <= 2000), reverse=True)[:3]')"
 same 'terms' "$(asked '{"search":{"query":"*","max_hits":0,"aggs":{"sections":{"terms":{"field":"section","size":3}}}}}' | field '[(b["doc_count"], b["key"]) for b in r["aggregations"]["sections"]["buckets"]]')" \
     "$(told '[(-n, k) for n, k in sorted((-sum(r["section"] == k for r in records), k) for k in {r["section"] for r in records})[:3]]')"
+
+# The log grows a little, three times: small splits come, and a merger makes one of them.
+lines_of() { yes "$1" | head -n "$2" || true; }
+for _ in 1 2 3; do
+    head -n 10 demo/logs/packages > more
+    cat more >> demo/logs/packages
+    lines_of 'indexer 0' 8 | poltyqen drive > outcomes
+    same 'a small split' "$(grep -c published outcomes)" 1
+done
+small=$(poltyqen splits | awk '$2 == "published" && $4 < 500' | wc -l)
+same 'a search before the merge' "$(asked '{"search":{"query":"*","max_hits":0}}' | field 'r["num_hits"]')" "$(told 'len(records)')"
+lines_of merger 30 | poltyqen drive > outcomes
+same 'a plan' "$(head -n 1 outcomes)" "merger planned $small"
+same 'a merge' "$(grep -c replaced outcomes)" 1
+same 'what it stands for' "$(poltyqen splits | grep -c marked)" "$small"
+same 'its row' "$(poltyqen splits | awk '$2 == "published" && $8 == 1' | wc -l)" 1
+same 'no more to merge' "$(tail -n 1 outcomes)" 'merger nothing'
+same 'the same behind the merge' "$(asked '{"search":{"query":"*","max_hits":0}}' | field 'r["num_hits"]')" "$(told 'len(records)')"
 
 # The log grows, and the program is killed while it indexes.
 cp demo/logs/packages more

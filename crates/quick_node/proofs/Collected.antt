@@ -212,7 +212,7 @@ freed_leaves start core after number i c f =
       files = λ key bytes e. by key bytes (c.files key bytes (i.ready.files key bytes e));
       more = i.more;
       grown = c.history ∙ i.ready.grown;
-      few = one_few i.more i.ready.one;
+      few = inl (one_few i.more i.ready.one);
       journal = grown_on start core after i.ready.journal c.journal;
     }
   where

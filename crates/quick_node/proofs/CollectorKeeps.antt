@@ -21,7 +21,7 @@ use Rattle.index_world.proofs.StoreKeys.{none_some, true_is_false}
 use Rattle.index_world.proofs.Worlds.{same-landed}
 use Rattle.node_run.proofs.CallTells.{AreLow, Gave, begun_low, landed_none}
 use Rattle.node_run.proofs.CollectorMoves.{answered_same, unmade_same}
-use Rattle.quick_node.proofs.Files.{Few, Fits, Grown, IsOwn, One, Stay, Still, Takes, and_own, before, begun_some, begun_still, behind, comes, create_fits, create_still, get_one, grown_on, last_own, one_few, same, same_journal, settled_one, taken_journal, taken_own, takes_none, weaker}
+use Rattle.quick_node.proofs.Files.{Few, Fits, Grown, IsOwn, IsTimed, One, Stay, Still, Takes, and_own, before, begun_some, begun_still, behind, comes, create_fits, create_still, get_one, grown_on, last_own, one_few, same, same_journal, settled_one, taken_journal, taken_own, takes_none, timed_asked, timed_taken, weaker}
 
 -- whatever an error is
 abbrev Any : {E : Type 0} → E → Type 0
@@ -48,6 +48,7 @@ pub record Ready (start core : Core) (more : List Entry) : Type 0 where
   pub low : AreLow (length start.history) core
   pub alone : IfAny more (core.standing ≡ None)
   pub asked : asked_moment core.frozen core.moment core.clock ≡ core.moment
+  pub timed : IsTimed start → IsTimed core
   pub noted : (n : ℕ) → Repeats (first_marked more) n ≡ true → core.moment ≤ taken_at core.marks n
 
 -- a step that has appended and deleted nothing
@@ -60,7 +61,7 @@ none_repeats : (n : ℕ) → Repeats [] n ≡ true → ⊥
 none_repeats n e = cc
 
 pub takes_one : {start core : Core} {more : List Entry} → Ready start core more → Takes One start core
-takes_one {start} {core} {more} r = record { files = r.files; more = more; grown = r.grown; few = r.one; journal = r.journal }
+takes_one {start} {core} {more} r = record { files = r.files; more = more; grown = r.grown; few = r.one; journal = r.journal; timed = r.timed }
 
 pub takes_few : {start core : Core} {more : List Entry} → Ready start core more → Takes Few start core
 takes_few r = weaker One Few one_few (takes_one r)
@@ -96,6 +97,7 @@ module _ (start : Core) where
         low = low;
         alone = tt;
         asked = asked_again start.frozen start.moment start.clock;
+        timed = timed_asked start;
         noted = λ n e. absurd (none_repeats n e);
       }
 
@@ -110,6 +112,7 @@ module _ (start : Core) where
         low = low;
         alone = quiet r.alone;
         asked = ap (λ (c : ℕ × Bool). asked_moment c.1 after.moment c.0) clock ∙ ap (λ (m : ℕ). asked_moment core.frozen m core.clock) moment ∙ r.asked ∙ sym moment;
+        timed = λ k. s.timed (r.timed k);
         noted = λ n e. subst (λ (m : ℕ). m ≤ taken_at after.marks n) (sym moment) (subst (λ ms. core.moment ≤ taken_at ms n) (sym marks) (r.noted n e));
       }
 
@@ -140,6 +143,7 @@ module _ (start : Core) where
         low = r.low;
         alone = refl;
         asked = asked_later core.frozen core.moment core.clock entry.moment r.asked;
+        timed = λ k. timed_taken entry core (r.timed k);
         noted = λ n e.
             let now = noted_now (max core.moment entry.moment) (marked_by entry.act) n e in
             let whole : taken_at (core.marks ++ marks_of entry.act (max core.moment entry.moment)) n ≡ max (taken_at core.marks n) (taken_at (marks_of entry.act (max core.moment entry.moment)) n) =
@@ -156,7 +160,7 @@ module _ (start : Core) where
       none_of (x ∷ es) a = absurd (none_some entry (sym a ∙ s))
 
   still_of : {core : Core} → Ready start core [] → Still start core
-  still_of r = record { files = r.files; history = r.grown ∙ append-nil start.history; journal = r.journal }
+  still_of r = record { files = r.files; history = r.grown ∙ append-nil start.history; journal = r.journal; timed = r.timed }
 
   -- ---- settling
 
@@ -187,7 +191,7 @@ module _ (start : Core) where
 
   behind_ready : (standing : Option Entry) (entry : Entry) (core : Core) → core.standing ≡ standing → Ready start core [] → IsReady (made_behind standing entry core).answer (made_behind standing entry core).core
   behind_ready None entry core q r =
-      moved core (record core { standing = Some entry }) [] r (comes core entry q (record core { standing = Some entry }) refl refl refl) r.low (λ a. tt) refl refl refl
+      moved core (record core { standing = Some entry }) [] r (comes core entry q (record core { standing = Some entry }) refl refl refl refl) r.low (λ a. tt) refl refl refl
   behind_ready (Some other) entry core q r = r
 
   made_ready : (b : Bool) (c : Effect) (entry : Entry) (core : Core) → Ready start core [] → IsReady (made_at b c entry core).answer (made_at b c entry core).core

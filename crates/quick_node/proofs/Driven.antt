@@ -20,6 +20,7 @@ use Rattle.node_run.specs.Turns.{opened_node}
 use Rattle.quick_node.specs.Faults.{AreBetween, store_told, log_told}
 use Rattle.quick_node.specs.Ending.{EndsSo, ended_status, last_line}
 use Rattle.quick_node.specs.Serve.{IsPrefixOf, Before, After, End, out_of_memory, end_told, status_of, reading_status, WroteLine, Wrote, HasEnd, IsFresh, Opens, Answers, Lives, BeginsAlong, Along, IsShown, AnswersFrom, EntersAs, Drives, ShowsAfter}
+use Rattle.quick_node.specs.Replaces.{ReplacesFrom, RestsFrom}
 use Rattle.quick_node.specs.declared.error_line.End.{End as Ended}
 use Rattle.quick_node.proofs.Catching.{lives_catch}
 use Rattle.quick_node.proofs.Calmed.{reader_counts, lives_calm}
@@ -27,6 +28,7 @@ use Rattle.quick_node.proofs.Exact.{exact_status}
 use Rattle.quick_node.proofs.Expiring.{lives_expire}
 use Rattle.quick_node.proofs.Gathered.{along_collects}
 use Rattle.quick_node.proofs.Living.{opens_moves, lives_follow}
+use Rattle.quick_node.proofs.Merged.{lives_merge}
 use Rattle.quick_node.proofs.LongerLog.{index_longer}
 use Rattle.quick_node.proofs.Onces.{configured_on, holds_once, covers_at, are_left}
 use Rattle.quick_node.specs.Once.{Reaches}
@@ -174,6 +176,8 @@ module _ (history : List Entry) (before : Before) (after : After) (fresh last : 
     catch_up = λ i within. lives_catch history (journal_of last.core) before fresh is i within end lines outcomes last lives (unread_front last.core.history last.core.standing);
     expires = λ config configured. lives_expire history (journal_of last.core) follows.0 world.index.stands.legal config configured before fresh is end lines outcomes last lives (unread_front last.core.history last.core.standing);
     collects = along_collects (journal_of last.core) world.index.stands.legal history fresh last (ap (λ n. n.core.history) is.is) lines outcomes (unread_front last.core.history last.core.standing) along;
+    replaces = merges.0;
+    rests = merges.1;
     tell = tell;
     fresh = fresh;
     is_fresh = is;
@@ -187,6 +191,9 @@ module _ (history : List Entry) (before : Before) (after : After) (fresh last : 
         subst (λ s. (s ≡ reading_status ending) ⊎ (s ≡ 11)) (sym status_is) (exact_status history before after fresh last is shown calm end lines outcomes ends lives some read ending live reads);
   }
     where
+      merges : ReplacesFrom (journal_of last.core) 0 (length history) [] lines outcomes × RestsFrom (journal_of last.core) 0 (length history) lines outcomes
+      merges = lives_merge (journal_of last.core) world.index.stands.legal history before fresh is after end lines outcomes last ends lives (unread_front last.core.history last.core.standing)
+
       told : before.store_faults ≤ last_count → AreBetween before.store_faults (end_told end ++ flat_map store_told outcomes) after.store_faults
       told bound =
           let same : fresh.core.store_faults ≡ before.store_faults = ap (λ n. n.core.store_faults) is.is in

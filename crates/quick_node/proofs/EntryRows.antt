@@ -193,7 +193,7 @@ gone_on h m (MarkStaged numbers) n may low none = none_changed numbers (rows h) 
 gone_on h m (Remove numbers) n may low none = none_without numbers (rows h) n none
 gone_on h m (Retire numbers) n may low none = none_changed numbers (rows h) (marked m) n (λ x. refl) none
 
-legal_before : (entries more : List Entry) → Legal reads (history (entries ++ more)) → Legal reads (history entries)
+pub legal_before : (entries more : List Entry) → Legal reads (history (entries ++ more)) → Legal reads (history entries)
 legal_before entries more legal = legal_front (history entries) more (subst (Legal reads) (fold-append ◌▸◌ Start entries more) legal)
 
 -- IT STAYS SO, whatever comes

@@ -1,4 +1,4 @@
--- A search is refused as Expired only where the deletion grace of the index had passed behind its plan, whatever lands and fails.
+-- A search, or a step of a merger, is refused as Expired only where the deletion grace of the index had passed behind its plan, whatever lands and fails.
 use Rattle.std.proofs.Common.{◌≡◌, ℕ, ◌+◌, ◌≤◌, Bool, true, false, List, [], ◌∷◌, ◌++◌, length, map, take, refl, sym, ap, ◌∙◌, subst, inl, inr, arith}
 use Rattle.std.proofs.lemmas.Bool.{leb-true}
 use Rattle.std.proofs.lemmas.List.{length-append, take-append-le, take_all}
@@ -36,61 +36,36 @@ use Rattle.root_search.specs.Steps.{Request, no_request, opened, planned, Plan, 
 use Rattle.root_search.specs.declared.outcome.SearchStep.{SearchStep}
 use Rattle.root_search.specs.declared.outcome.SearchStep.TheVariants.{Idle, Planned, Fetched, Replied}
 use Rattle.split_collector.specs.Outcomes.{Outcome as CollectorOutcome}
-use Rattle.node_run.specs.Node.{Node, Line, At, Assign, StepIndexer, RestartIndexer, RestartClient, StepCollector, RestartCollector, RestartNode, Open, StepClient, Outcome, client_said}
+use Rattle.upkeep_run.specs.Outcomes.{UpkeepOutcome}
+use Rattle.upkeep_run.specs.Places as workers
+use Rattle.upkeep_run.specs.declared.work.Aim.{Aim}
+use Rattle.upkeep_run.specs.declared.work.Aim.TheVariants.{Merging}
+use Rattle.node_run.specs.Node.{Node, Line, At, Assign, StepIndexer, RestartIndexer, RestartClient, StepMerger, RestartMerger, StepCollector, RestartCollector, RestartNode, Open, StepClient, Outcome, client_said}
 use Rattle.node_run.specs.Telling.{IsOfText}
 use Rattle.node_run.specs.Turns as node_turns
-use Rattle.node_run.specs.Turns.{Turned, Turn, Turns, assign_at, client_named, client_turn_by, collector_turn_by, full_turn, indexer_at, indexer_turn_by, open_by, or_quiet, quiet, restart_by, said_by_client, said_by_collector, said_by_indexer, searching_luck, turn_by, with_client, with_dropped}
+use Rattle.node_run.specs.Turns.{Turned, Turn, Turns, assign_at, client_named, client_turn_by, collector_turn_by, full_turn, indexer_at, indexer_turn_by, open_by, or_quiet, quiet, restart_by, said_by_client, said_by_collector, said_by_indexer, said_by_worker, searching_luck, turn_by, with_client, with_dropped, with_merger, worker_turn_by, working_luck}
 use Rattle.node_run.proofs.CallMoves.{Grows, asked_and_looked_moves}
 use Rattle.node_run.proofs.CallTells.{IfErr, IsStoreTrouble, asked_and_looked_own}
 use Rattle.node_run.proofs.Moving.{plan_same, turn_later, turns_later}
 use Rattle.node_run.proofs.Refusals.{OfText, asked_of_text}
 use Rattle.quick_node.specs.Expires.{ExpiresOver, IsOver, SaidIsOver}
 use Rattle.quick_node.specs.Serve.{IsPrefixOf, Before, End, by_reading, no_index, opening_failed, read_failed, write_failed, out_of_memory, IsFresh, Answers, Unopened, RanShort, Lives}
+use Rattle.quick_node.proofs.Lateness.{IsLate, WorkOver, WorkerKeeps, fetched_late, worker_keeps}
 use Rattle.quick_node.proofs.Living.{opens_moves}
 use Rattle.quick_node.proofs.Onces.{configured_on}
 use Rattle.quick_node.proofs.Searching.{prefix_on}
 
 -- ---- fetches
 
--- a fetch is too late only where the moment until which it may come has passed
-abbrev pub IsLate : Grace → Trouble → Type 0
-IsLate grace (faulted (store_fault before after)) = ⊤
-IsLate grace (faulted (is_foreign key)) = ⊤
-IsLate grace (faulted is_full) = ⊤
-IsLate grace (faulted (is_expired planned_at now)) = (planned_at ≡ grace.planned_at) × (grace.until ≤ now)
-IsLate grace no_memory = ⊤
-
 module _ (grace : Grace) where
-  got_late : (b : Bool) (before : ℕ) (core : Core) → IfErr (IsLate grace) (got_file b before core).answer
-  got_late true before core = tt
-  got_late false before core = tt
-
-  file_late : (call : Call) (core : Core) → IfErr (IsLate grace) (file_got call core).answer
-  file_late call core = by call.short
-    where
-      by : (b : Bool) → IfErr (IsLate grace) (or_short b no_memory call core (got_file (may_fail call core.store_faults) core.store_faults (begun call core))).answer
-      by true = tt
-      by false = got_late (may_fail call core.store_faults) core.store_faults (begun call core)
-
-  fetched_late : (fate : Fate) (core : Core) → IfErr (IsLate grace) (fetched grace fate core).answer
-  fetched_late fate core = by fate.unasked
-    where
-      unless : (b : Bool) → nat_le grace.until (asked_clock core).moment ≡ b → IfErr (IsLate grace) (unless_over b grace.planned_at (asked_clock core) (file_got fate.first (asked_clock core))).answer
-      unless true e = (refl, leb-true grace.until (asked_clock core).moment e)
-      unless false e = file_late fate.first (asked_clock core)
-
-      by : (b : Bool) → IfErr (IsLate grace) (asking b no_memory core (λ c. unless_over (nat_le grace.until c.moment) grace.planned_at c (file_got fate.first c))).answer
-      by true = tt
-      by false = unless (nat_le grace.until (asked_clock core).moment) refl
-
   unless_late : (r : Result ⊤ Trouble) (core : Core) (next : Core → Gives Trouble ⊤) → IfErr (IsLate grace) r → IfErr (IsLate grace) (next core).answer → IfErr (IsLate grace) (unless_fault r core next).answer
   unless_late (Ok done) core next g n = n
   unless_late (Err trouble) core next g n = g
 
   each_late : (more : List Fate) (fate : Fate) (core : Core) → IfErr (IsLate grace) (fetched_each grace fate more core).answer
-  each_late [] fate core = fetched_late fate core
+  each_late [] fate core = fetched_late grace fate core
   each_late (next ∷ more) fate core =
-      let given = fetched grace fate core in unless_late given.answer given.core (fetched_each grace next more) (fetched_late fate core) (each_late more next given.core)
+      let given = fetched grace fate core in unless_late given.answer given.core (fetched_each grace next more) (fetched_late grace fate core) (each_late more next given.core)
 
 -- ---- a client's step
 
@@ -237,24 +212,35 @@ LineOver grace (Some outcome) = ExpiresOver grace outcome
 
 record LineKeeps (grace : ℕ) (turn : Turned) : Type 0 where
   clients : AllKeep grace turn.node.clients
+  merger : WorkerKeeps grace turn.node.merger
   said : LineOver grace turn.said
 
-module _ (grace : ℕ) (node : Node) (all : AllKeep grace node.clients) where
+module _ (grace : ℕ) (node : Node) (all : AllKeep grace node.clients) (work : WorkerKeeps grace node.merger) where
   indexer_over : (i : ℕ) (outcome : Option IndexerOutcome) → LineOver grace (said_by_indexer i outcome)
   indexer_over i None = tt
   indexer_over i (Some outcome) = tt
 
   indexer_keeps : (down : Bool) (luck : node_turns.Luck) (i : ℕ) → LineKeeps grace (indexer_turn_by down luck i node)
-  indexer_keeps true luck i = record { clients = all; said = tt }
-  indexer_keeps false luck i = record { clients = all; said = indexer_over i _ }
+  indexer_keeps true luck i = record { clients = all; merger = work; said = tt }
+  indexer_keeps false luck i = record { clients = all; merger = work; said = indexer_over i _ }
+
+  worker_over : (aim : Aim) (outcome : Option UpkeepOutcome) → WorkOver grace outcome → LineOver grace (said_by_worker aim outcome)
+  worker_over aim None h = tt
+  worker_over aim (Some outcome) h = h
+
+  merger_keeps : (down : Bool) (luck : node_turns.Luck) → (config_in (worker_turn_by down Merging node.merger with_merger luck node).node.core).deletion_grace ≡ grace →
+      LineKeeps grace (worker_turn_by down Merging node.merger with_merger luck node)
+  merger_keeps true luck same = record { clients = all; merger = work; said = tt }
+  merger_keeps false luck same =
+      let s = worker_keeps grace (working_luck luck) node.log node.core Merging node.merger work same in record { clients = all; merger = s.place; said = worker_over Merging _ s.said }
 
   collector_over : (outcome : Option CollectorOutcome) → LineOver grace (said_by_collector outcome)
   collector_over None = tt
   collector_over (Some outcome) = tt
 
   collector_keeps : (down : Bool) (luck : node_turns.Luck) → LineKeeps grace (collector_turn_by down luck node)
-  collector_keeps true luck = record { clients = all; said = tt }
-  collector_keeps false luck = record { clients = all; said = collector_over _ }
+  collector_keeps true luck = record { clients = all; merger = work; said = tt }
+  collector_keeps false luck = record { clients = all; merger = work; said = collector_over _ }
 
   client_over : (name : List ℕ) (outcome : Option SearchStep) → StepOver grace outcome → LineOver grace (said_by_client name outcome)
   client_over name None h = tt
@@ -264,37 +250,39 @@ module _ (grace : ℕ) (node : Node) (all : AllKeep grace node.clients) where
   client_over name (Some (Replied reply)) h = h
 
   client_keeps : (down : Bool) (luck : node_turns.Luck) (name : List ℕ) → (config_in (client_turn_by down luck name node).node.core).deletion_grace ≡ grace → LineKeeps grace (client_turn_by down luck name node)
-  client_keeps true luck name same = record { clients = with_keeps grace (client_named name node.clients) node.clients (named_keeps grace name node.clients all) all; said = tt }
+  client_keeps true luck name same = record { clients = with_keeps grace (client_named name node.clients) node.clients (named_keeps grace name node.clients all) all; merger = work; said = tt }
   client_keeps false luck name same =
       let client = client_named name node.clients in
       let s = step_keeps grace (searching_luck luck) node.log client node.core (named_keeps grace name node.clients all) same in
-      record { clients = with_keeps grace (step_client (searching_luck luck) node.log client node.core).client node.clients s.request all; said = client_over name _ s.said }
+      record { clients = with_keeps grace (step_client (searching_luck luck) node.log client node.core).client node.clients s.request all; merger = work; said = client_over name _ s.said }
 
   assign_keeps : (place : Place) (i : ℕ) (names : List (List ℕ)) (indexer : Indexer) → LineKeeps grace (assign_at place i names indexer node)
-  assign_keeps idle i names indexer = record { clients = all; said = tt }
-  assign_keeps (reading batch) i names indexer = record { clients = all; said = tt }
-  assign_keeps (staged held) i names indexer = record { clients = all; said = tt }
-  assign_keeps (uploaded held) i names indexer = record { clients = all; said = tt }
+  assign_keeps idle i names indexer = record { clients = all; merger = work; said = tt }
+  assign_keeps (reading batch) i names indexer = record { clients = all; merger = work; said = tt }
+  assign_keeps (staged held) i names indexer = record { clients = all; merger = work; said = tt }
+  assign_keeps (uploaded held) i names indexer = record { clients = all; merger = work; said = tt }
 
   open_keeps : (request : Request) (name text : List ℕ) (client : Client) → LineKeeps grace (open_by request name text client node)
-  open_keeps no_request name text client = record { clients = with_keeps grace (record client { request = opened text }) node.clients tt all; said = tt }
-  open_keeps (opened other) name text client = record { clients = all; said = tt }
-  open_keeps (planned plan) name text client = record { clients = all; said = tt }
+  open_keeps no_request name text client = record { clients = with_keeps grace (record client { request = opened text }) node.clients tt all; merger = work; said = tt }
+  open_keeps (opened other) name text client = record { clients = all; merger = work; said = tt }
+  open_keeps (planned plan) name text client = record { clients = all; merger = work; said = tt }
 
   restart_keeps : (r : Result ⊤ Unread) (core : Core) → LineKeeps grace (restart_by r core node)
-  restart_keeps (Ok done) core = record { clients = without_keeps grace node.clients; said = tt }
-  restart_keeps (Err (not_read (faulted fault))) core = record { clients = without_keeps grace node.clients; said = tt }
-  restart_keeps (Err (not_read no_memory)) core = record { clients = without_keeps grace node.clients; said = tt }
-  restart_keeps (Err calls.no_index) core = record { clients = without_keeps grace node.clients; said = tt }
+  restart_keeps (Ok done) core = record { clients = without_keeps grace node.clients; merger = tt; said = tt }
+  restart_keeps (Err (not_read (faulted fault))) core = record { clients = without_keeps grace node.clients; merger = tt; said = tt }
+  restart_keeps (Err (not_read no_memory)) core = record { clients = without_keeps grace node.clients; merger = tt; said = tt }
+  restart_keeps (Err calls.no_index) core = record { clients = without_keeps grace node.clients; merger = tt; said = tt }
 
   full_keeps : (luck : node_turns.Luck) (line : Line) → (config_in (full_turn luck node line).node.core).deletion_grace ≡ grace → LineKeeps grace (full_turn luck node line)
-  full_keeps luck (At moment) same = record { clients = all; said = tt }
+  full_keeps luck (At moment) same = record { clients = all; merger = work; said = tt }
   full_keeps luck (Assign i names) same = assign_keeps (indexer_at node.indexers i).place i names (indexer_at node.indexers i)
   full_keeps luck (StepIndexer i) same = indexer_keeps node.down luck i
-  full_keeps luck (RestartIndexer i) same = record { clients = all; said = tt }
-  full_keeps luck (RestartClient name) same = record { clients = with_keeps grace (without_request (client_named name node.clients)) node.clients tt all; said = tt }
+  full_keeps luck (RestartIndexer i) same = record { clients = all; merger = work; said = tt }
+  full_keeps luck (RestartClient name) same = record { clients = with_keeps grace (without_request (client_named name node.clients)) node.clients tt all; merger = work; said = tt }
+  full_keeps luck StepMerger same = merger_keeps node.down luck same
+  full_keeps luck RestartMerger same = record { clients = all; merger = tt; said = tt }
   full_keeps luck StepCollector same = collector_keeps node.down luck
-  full_keeps luck RestartCollector same = record { clients = all; said = tt }
+  full_keeps luck RestartCollector same = record { clients = all; merger = work; said = tt }
   full_keeps luck RestartNode same = let given = loaded luck.world node.core in restart_keeps given.answer given.core
   full_keeps luck (Open name text) same = open_keeps (client_named name node.clients).request name text (client_named name node.clients)
   full_keeps luck (StepClient name) same = client_keeps node.down luck name same
@@ -304,16 +292,16 @@ module _ (grace : ℕ) (node : Node) (all : AllKeep grace node.clients) where
 none_is_some : (outcome : Outcome) → None ≡ Some outcome → ⊥
 none_is_some outcome e = cc
 
-line_keeps : (grace : ℕ) (node : Node) (line : Line) (outcome : Outcome) (last : Node) → AllKeep grace node.clients → (config_in last.core).deletion_grace ≡ grace → Turn node line (Some outcome) last →
-    AllKeep grace last.clients × ExpiresOver grace outcome
+line_keeps : (grace : ℕ) (node : Node) (line : Line) (outcome : Outcome) (last : Node) → AllKeep grace node.clients × WorkerKeeps grace node.merger → (config_in last.core).deletion_grace ≡ grace → Turn node line (Some outcome) last →
+    (AllKeep grace last.clients × WorkerKeeps grace last.merger) × ExpiresOver grace outcome
 line_keeps grace node line outcome last all same t = early t.luck.early t.is
   where
-    quiet_by : (b : Bool) → or_quiet b line (full_turn t.luck node line) ≡ record { said = Some outcome; node = last } → AllKeep grace last.clients × ExpiresOver grace outcome
+    quiet_by : (b : Bool) → or_quiet b line (full_turn t.luck node line) ≡ record { said = Some outcome; node = last } → (AllKeep grace last.clients × WorkerKeeps grace last.merger) × ExpiresOver grace outcome
     quiet_by true e = absurd (none_is_some outcome (ap (λ r. r.said) e))
     quiet_by false e =
-        let k = subst (LineKeeps grace) e (full_keeps grace node all t.luck line (ap (λ r. (config_in r.node.core).deletion_grace) e ∙ same)) in (k.clients, k.said)
+        let k = subst (LineKeeps grace) e (full_keeps grace node all.0 all.1 t.luck line (ap (λ r. (config_in r.node.core).deletion_grace) e ∙ same)) in ((k.clients, k.merger), k.said)
 
-    early : (b : Bool) → turn_by b t.luck node line ≡ record { said = Some outcome; node = last } → AllKeep grace last.clients × ExpiresOver grace outcome
+    early : (b : Bool) → turn_by b t.luck node line ≡ record { said = Some outcome; node = last } → (AllKeep grace last.clients × WorkerKeeps grace last.merger) × ExpiresOver grace outcome
     early true e = absurd (none_is_some outcome (ap (λ r. r.said) e))
     early false e = quiet_by t.luck.short e
 
@@ -333,7 +321,7 @@ module _ (entry exit : List Entry) (begins : IsPrefixOf entry exit) (legal : Leg
   longer : (xs ys : List Entry) → IsPrefixOf xs ys → length xs ≤ length ys
   longer xs ys p = let l : length ys ≡ length xs + length p.0 = ap length p.1 ∙ length-append xs p.0 in omega (arith, l)
 
-  turns_expire : (node last : Node) (lines : List Line) (outcomes : List Outcome) → AllKeep grace node.clients → length entry ≤ length node.core.history → IsPrefixOf last.core.history exit →
+  turns_expire : (node last : Node) (lines : List Line) (outcomes : List Outcome) → AllKeep grace node.clients × WorkerKeeps grace node.merger → length entry ≤ length node.core.history → IsPrefixOf last.core.history exit →
       Turns node lines outcomes last → AllByRecursion (ExpiresOver grace) outcomes
   turns_expire node last [] [] all le p run = tt
   turns_expire node last [] (o ∷ os) all le p run = absurd run
@@ -349,12 +337,15 @@ module _ (entry exit : List Entry) (begins : IsPrefixOf entry exit) (legal : Leg
   module _ (before : Before) (fresh : Node) (fresh_is : IsFresh before entry fresh) where
     answers_expire : (lines : List Line) (outcomes : List Outcome) (last : Node) → Answers fresh lines outcomes last → IsPrefixOf last.core.history exit → AllByRecursion (ExpiresOver grace) outcomes
     answers_expire lines outcomes last a p =
-        turns_expire a.opened last lines outcomes (subst (AllKeep grace) (sym clients) tt)
+        turns_expire a.opened last lines outcomes (subst (AllKeep grace) (sym clients) tt, subst (WorkerKeeps grace) (sym idle_is) tt)
         (let more = longer fresh.core.history a.opened.core.history (opens_moves fresh (Ok tt) a.opened a.opens).later.grows in let same = ap (λ (n : Node). length n.core.history) fresh_is.is in omega (arith, more, same)) p
         a.turns
       where
         clients : a.opened.clients ≡ []
         clients = ap (λ n. n.clients) a.opens.is ∙ ap (λ n. n.clients) fresh_is.is
+
+        idle_is : a.opened.merger ≡ workers.idle
+        idle_is = ap (λ (n : Node). n.merger) a.opens.is ∙ ap (λ (n : Node). n.merger) fresh_is.is
 
     none_expire : (outcomes : List Outcome) → outcomes ≡ [] → AllByRecursion (ExpiresOver grace) outcomes
     none_expire outcomes none = subst (AllByRecursion (ExpiresOver grace)) (sym none) tt

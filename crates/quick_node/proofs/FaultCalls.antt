@@ -39,7 +39,7 @@ use Rattle.root_search.specs.Requests.{asked_of}
 use Rattle.root_search.specs.Steps.{Request, no_request, opened, planned, Plan, Client, config_at, config_in, plan_by, fetch_by, fetched_each, unless_fault, next_step, step_request, step_client}
 use Rattle.root_search.specs.Steps as searching
 use Rattle.root_search.specs.declared.outcome.SearchStep.{SearchStep}
-use Rattle.node_run.specs.Node.{Node, Line, At, Assign, StepIndexer, RestartIndexer, RestartClient, StepCollector, RestartCollector, RestartNode, Open, StepClient, Outcome}
+use Rattle.node_run.specs.Node.{Node, Line, At, Assign, StepIndexer, RestartIndexer, RestartClient, StepMerger, RestartMerger, StepCollector, RestartCollector, RestartNode, Open, StepClient, Outcome}
 use Rattle.node_run.specs.Turns.{Luck, Turned, indexer_at, indexing_luck, searching_luck, said_by_indexer, said_by_client, assign_at, indexer_turn_by, client_turn_by, client_named, open_by, restart_by, full_turn, quiet, or_quiet, turn_by, Turn, Turns}
 use Rattle.node_run.proofs.Refusals.{OfText, asked_of_text}
 use Rattle.node_run.specs.Telling.{IsOfText}
@@ -295,7 +295,7 @@ unless_over_good : (over : Bool) (planned_at : ℕ) (core : Core) (otherwise : G
 unless_over_good true planned_at core otherwise bound g = record { says = omega arith; on = omega arith; bound = bound }
 unless_over_good false planned_at core otherwise bound g = g
 
-fetched_good : (grace : Grace) (fate : Fate) (core : Core) → core.store_faults ≤ last_count → Good trouble_told core.store_faults (fetched grace fate core)
+pub fetched_good : (grace : Grace) (fate : Fate) (core : Core) → core.store_faults ≤ last_count → Good trouble_told core.store_faults (fetched grace fate core)
 fetched_good grace fate core bound =
     asking_good trouble_told fate.unasked no_memory core (λ c. unless_over (nat_le grace.until c.moment) grace.planned_at c (file_got fate.first c)) refl bound
     (unless_over_good (nat_le grace.until (asked_clock core).moment) grace.planned_at (asked_clock core) (file_got fate.first (asked_clock core)) bound (file_got_good fate.first (asked_clock core) bound))

@@ -40,14 +40,18 @@ use Rattle.root_search.specs.Steps.{Request, no_request, opened, planned, Plan, 
 use Rattle.root_search.specs.Steps as searching
 use Rattle.root_search.specs.declared.outcome.SearchStep.{SearchStep}
 use Rattle.split_collector.specs.Outcomes.{Outcome as CollectorOutcome}
-use Rattle.node_run.specs.Node.{Node, Line, At, Assign, StepIndexer, RestartIndexer, RestartClient, StepCollector, RestartCollector, RestartNode, Open, StepClient, Outcome}
-use Rattle.node_run.specs.Turns.{Luck, Turned, indexer_at, indexing_luck, searching_luck, said_by_indexer, said_by_client, said_by_collector, assign_at, indexer_turn_by, client_turn_by, client_named, collecting_luck, collector_turn_by, open_by, restart_by, full_turn, quiet, or_quiet, turn_by, Turn, Turns}
+use Rattle.upkeep_run.specs.Outcomes.{UpkeepOutcome}
+use Rattle.upkeep_run.specs.declared.work.Aim.{Aim}
+use Rattle.upkeep_run.specs.declared.work.Aim.TheVariants.{Merging}
+use Rattle.node_run.specs.Node.{Node, Line, At, Assign, StepIndexer, RestartIndexer, RestartClient, StepMerger, RestartMerger, StepCollector, RestartCollector, RestartNode, Open, StepClient, Outcome}
+use Rattle.node_run.specs.Turns.{Luck, Turned, indexer_at, indexing_luck, searching_luck, said_by_indexer, said_by_client, said_by_collector, assign_at, indexer_turn_by, client_turn_by, client_named, collecting_luck, collector_turn_by, open_by, restart_by, full_turn, quiet, or_quiet, turn_by, Turn, Turns, working_luck, said_by_worker, worker_turn_by, with_merger}
 use Rattle.node_run.proofs.Refusals.{OfText, asked_of_text}
 use Rattle.node_run.specs.Telling.{IsOfText}
 use Rattle.quick_node.specs.Faults.{Interval, AreBetween, fault_told, indexer_told, refusal_told, said_told, search_told, store_told}
 use Rattle.quick_node.proofs.Exact.{begun_count, failed_rose}
 use Rattle.quick_node.proofs.FaultCalls.{trouble_told, unmade_told, unread_told, answer_told, Good, Says, as_given, lower, appended_good, looked_good, asked_and_looked_good, asked_good, file_good, each_good, loaded_good}
 use Rattle.quick_node.proofs.CollectorFaults.{by_collector, collector_says}
+use Rattle.quick_node.proofs.WorkerFaults.{by_worker, worker_says}
 
 abbrev by_indexer : Option IndexerOutcome → List Interval
 by_indexer None = []
@@ -276,6 +280,10 @@ client_line : (low : ℕ) (name : List ℕ) (outcome : Option SearchStep) (core 
 client_line low name None core p = p
 client_line low name (Some outcome) core p = p
 
+worker_line : (low : ℕ) (aim : Aim) (outcome : Option UpkeepOutcome) (core : Core) → Says low (by_worker outcome) core → Says low (by_line (said_by_worker aim outcome)) core
+worker_line low aim None core p = p
+worker_line low aim (Some outcome) core p = p
+
 collector_line : (low : ℕ) (outcome : Option CollectorOutcome) (core : Core) → Says low (by_collector outcome) core → Says low (by_line (said_by_collector outcome)) core
 collector_line low None core p = p
 collector_line low (Some outcome) core p = p
@@ -306,6 +314,10 @@ module _ (luck : Luck) (node : Node) (bound : node.core.store_faults ≤ last_co
   client_turn_said true name = still node.core bound
   client_turn_said false name = client_line node.core.store_faults name _ _ (client_said (searching_luck luck) node.log (client_named name node.clients) node.core bound)
 
+  merger_turn_said : (down : Bool) → Turning node.core.store_faults (worker_turn_by down Merging node.merger with_merger luck node)
+  merger_turn_said true = still node.core bound
+  merger_turn_said false = worker_line node.core.store_faults Merging _ _ (worker_says (working_luck luck) node.log node.core bound Merging node.merger)
+
   collector_turn_said : (down : Bool) → Turning node.core.store_faults (collector_turn_by down luck node)
   collector_turn_said true = still node.core bound
   collector_turn_said false = collector_line node.core.store_faults _ _ (collector_says (collecting_luck luck) node.core bound)
@@ -316,6 +328,8 @@ module _ (luck : Luck) (node : Node) (bound : node.core.store_faults ≤ last_co
   full_said (StepIndexer i) = indexer_turn_said node.down i
   full_said (RestartIndexer i) = still node.core bound
   full_said (RestartClient name) = still node.core bound
+  full_said StepMerger = merger_turn_said node.down
+  full_said RestartMerger = still node.core bound
   full_said StepCollector = collector_turn_said node.down
   full_said RestartCollector = still node.core bound
   full_said RestartNode =
@@ -330,6 +344,8 @@ quiet_count (Assign i names) node = refl
 quiet_count (StepIndexer i) node = refl
 quiet_count (RestartIndexer i) node = refl
 quiet_count (RestartClient name) node = refl
+quiet_count StepMerger node = refl
+quiet_count RestartMerger node = refl
 quiet_count StepCollector node = refl
 quiet_count RestartCollector node = refl
 quiet_count RestartNode node = refl

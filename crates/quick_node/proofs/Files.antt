@@ -1,6 +1,6 @@
 -- Whatever lands and fails, a call of the world takes in at most an entry that stood there and one of its own, and no step of an indexer or
 -- of a client deletes a file.
-use Rattle.std.proofs.Common.{◌≡◌, ◌⊎◌, ℕ, List, [], ◌∷◌, ◌++◌, refl, sym, ap, ap₂, ◌∙◌, Bool, true, false, append_assoc, subst, inl}
+use Rattle.std.proofs.Common.{◌≡◌, ◌⊎◌, ℕ, ◌≤◌, max, List, [], ◌∷◌, ◌++◌, refl, sym, ap, ap₂, ◌∙◌, Bool, true, false, append_assoc, subst, inl, inr, arith}
 use Rattle.std.proofs.lemmas.List.{append-nil}
 use Rattle.std.specs.Prelude.{Option, Some, None, Result, Ok, Err, ⊤, if◌then◌else◌, ◌==◌, ◌||◌, slice_get, length, is_some, nat_le, bytes_eq}
 use Rattle.index_config.specs.Answer.{config_answer}
@@ -10,7 +10,8 @@ use Rattle.meta_journal.specs.declared.entry.Act.{Act}
 use Rattle.meta_journal.specs.declared.entry.Act.TheVariants.{Fence, Create, Stage, Publish, Replace, Raise, Task, MarkStaged, Remove, Retire}
 use Rattle.meta_journal.specs.declared.entry.Entry.{Entry}
 use Rattle.meta_journal.specs.Places.{split_key}
-use Rattle.meta_store.specs.History.{history}
+use Rattle.meta_store.proofs.Numbers.{history-snoc}
+use Rattle.meta_store.specs.History.{history, moment_of}
 use Rattle.meta_store.specs.Numbers.{IsGivenUp}
 use Rattle.meta_store.specs.Rows.{rows}
 use Rattle.split_states.specs.Rows.{row_at}
@@ -18,10 +19,10 @@ use Rattle.split_states.specs.declared.rows.Row.{Row}
 use Rattle.split_states.specs.declared.rows.RowState.TheVariants.{Published}
 use Rattle.source_checkpoint.specs.declared.ledger.Checkpoint.{Checkpoint}
 use Rattle.source_log.specs.Log.{Log}
-use Rattle.index_world.specs.Calls.{Effect, done_at_once, done_late, done_never, is_at_once, Fate, Call, Trouble, faulted, no_memory, Unmade, Unread, not_read, Gives, Made, made, exists, failed, risen, may_fail, entry_lands, file_lands, land_at, all_landed, begun, tried, made_behind, made_at, create_at_end, taken_in, or_short, unless_short, asked_clock, asking, and_then_by, taken_unless, got_at, get_at_end, settle_made, settle_with, settled, fence_of, entry_of, may_append, last_made, last_unless, last_create, troubled_by, as_unmade, adopted_made, first_unless, transact, appended, looked, asked_and_looked, asked, file_by, file_made, got_file, file_got, Grace, unless_over, fetched, with_standing, read_journal, unless_empty, load_by, loaded}
+use Rattle.index_world.specs.Calls.{Effect, done_at_once, done_late, done_never, is_at_once, Fate, Call, Trouble, faulted, no_memory, Unmade, Unread, not_read, Gives, Made, made, exists, failed, risen, may_fail, entry_lands, file_lands, land_at, all_landed, begun, tried, made_behind, made_at, create_at_end, taken_in, or_short, unless_short, asked_clock, asked_moment, asking, and_then_by, taken_unless, got_at, get_at_end, settle_made, settle_with, settled, fence_of, entry_of, may_append, last_made, last_unless, last_create, troubled_by, as_unmade, adopted_made, first_unless, transact, appended, looked, asked_and_looked, asked, file_by, file_made, got_file, file_got, Grace, unless_over, fetched, with_standing, reborn, read_journal, unless_empty, load_by, loaded}
 use Rattle.index_world.specs.Calls as calls
 use Rattle.index_world.specs.Created.{first_made, created_by, created_behind, created}
-use Rattle.index_world.specs.Core.{Core, File, Late, late_entry, late_dead, late_file, file_at, with_unread, journal_of}
+use Rattle.index_world.specs.Core.{Core, clock_of, File, Late, late_entry, late_dead, late_file, file_at, with_unread, journal_of}
 use Rattle.index_world.specs.Gate.{stage_act}
 use Rattle.index_world.specs.SplitFile.{file_of}
 use Rattle.index_world.proofs.StoreKeys.{none_some}
@@ -50,7 +51,7 @@ stay_more (x ∷ xs) ys key bytes e = by (bytes_eq x.key key) (stay_more xs ys k
 
 -- ---- entries that are taken in
 
--- an entry that an actor of a node makes, or the making of an index
+-- an entry that marks no published row and changes what none holds
 abbrev pub IsOwn : Act → Type 0
 IsOwn Fence = ⊥
 IsOwn (Create config) = ⊤
@@ -95,6 +96,48 @@ joined [] ys o w = own_few ys w
 joined (x ∷ []) ys o w = w
 joined (x ∷ y ∷ xs) ys o w = absurd o
 
+-- ---- moments
+
+-- its moment is what its clock tells or the greatest of its entries, whichever is later, or was so once
+pub record IsTimed (core : Core) : Type 0 where
+  pub asks : core.frozen ≡ false
+  pub least : moment_of (history core.history) ≤ core.moment
+  pub most : core.moment ≤ max core.clock (moment_of (history core.history))
+
+-- what its moment is told by, beside its entries
+abbrev pub time_of : Core → ℕ × (ℕ × Bool)
+time_of core = (core.moment, clock_of core)
+
+pub timed_same : (a b : Core) → b.history ≡ a.history → time_of b ≡ time_of a → IsTimed a → IsTimed b
+timed_same a b es e t =
+    let m = ap (λ k. k.0) e in
+    let c = ap (λ k. k.1.0) e in
+    let h = ap (λ (xs : List Entry). moment_of (history xs)) es in
+    let low = t.least in
+    let high = t.most in
+    record { asks = ap (λ k. k.1.1) e ∙ t.asks; least = omega (arith, m, h, low); most = omega (arith, m, c, h, high) }
+
+pub timed_asked : (core : Core) → IsTimed core → IsTimed (asked_clock core)
+timed_asked core t =
+    let e = ap (λ b. asked_moment b core.moment core.clock) t.asks in
+    let low = t.least in
+    let high = t.most in
+    record { asks = t.asks; least = omega (arith, e, low); most = omega (arith, e, high) }
+
+-- behind an entry the greatest moment is its own, or as before
+pub moment_more : (es : List Entry) (entry : Entry) → moment_of (history (es ++ entry ∷ [])) ≡ max (moment_of (history es)) entry.moment
+moment_more es entry = ap moment_of (history-snoc es entry)
+
+pub timed_taken : (entry : Entry) (core : Core) → IsTimed core → IsTimed (taken_in entry core)
+timed_taken entry core t =
+    let e = moment_more core.history entry in
+    let low = t.least in
+    let high = t.most in
+    record { asks = t.asks; least = omega (arith, e, low); most = omega (arith, e, high) }
+
+timed_reborn : (core : Core) → IsTimed core → IsTimed (reborn core)
+timed_reborn core t = record { asks = t.asks; least = omega arith; most = omega arith }
+
 -- ---- from one core to another
 
 -- the journal goes on
@@ -112,6 +155,7 @@ pub record Still (a b : Core) : Type 0 where
   pub files : Stay a.files b.files
   pub history : b.history ≡ a.history
   pub journal : Grown a b
+  pub timed : IsTimed a → IsTimed b
 
 -- the files stay, and these entries are taken in
 pub record Takes (P : List Entry → Type 0) (a b : Core) : Type 0 where
@@ -120,6 +164,7 @@ pub record Takes (P : List Entry → Type 0) (a b : Core) : Type 0 where
   pub grown : b.history ≡ a.history ++ more
   pub few : P more
   pub journal : Grown a b
+  pub timed : IsTimed a → IsTimed b
 
 -- ---- where a file may be deleted
 
@@ -128,34 +173,68 @@ pub record Freed (a b : Core) (number : ℕ) : Type 0 where
   pub unpublished : (row : Row) → row_at (rows (history a.history)) number ≡ Some row → row.state ≡ Published → ⊥
   pub given_up : IsGivenUp b.history number
 
+-- one of a list
+abbrev pub Among : {X : Type 0} → X → List X → Type 0
+Among x [] = ⊥
+Among x (y ∷ ys) = (y ≡ x) ⊎ Among x ys
+
+-- an entry stands unread, or it is late and would land at the end
+abbrev pub Comes : Core → Entry → Type 0
+Comes core entry = (core.standing ≡ Some entry) ⊎ ((core.standing ≡ None) × ((number : ℕ) × (bytes : List ℕ) × (number ≡ length core.history) × Among (late_entry number entry bytes) core.late))
+
+-- or a step makes it to close a number
+abbrev pub Came : Core → Entry → Type 0
+Came core entry = Comes core entry ⊎ (entry.act ≡ Fence)
+
+abbrev pub CameOne : Core → List Entry → Type 0
+CameOne core [] = ⊤
+CameOne core (entry ∷ []) = Came core entry
+CameOne core (entry ∷ other ∷ entries) = ⊥
+
+-- at most one, and one of one's own behind one that came from somewhere
+abbrev pub CameFew : Core → List Entry → Type 0
+CameFew core [] = ⊤
+CameFew core (entry ∷ []) = ⊤
+CameFew core (entry ∷ own ∷ []) = Came core entry
+CameFew core (entry ∷ own ∷ other ∷ entries) = ⊥
+
 -- these entries are taken in, and the files stay, but for those of numbers that were freed
 pub record Leaves (a b : Core) : Type 0 where
   pub files : (key bytes : List ℕ) → file_at a.files key ≡ Some bytes → (file_at b.files key ≡ Some bytes) ⊎ ((number : ℕ) × (key ≡ split_key number) × Freed a b number)
   pub more : List Entry
   pub grown : b.history ≡ a.history ++ more
-  pub few : Few more
+  pub few : Few more ⊎ (CameFew a more × Stay a.files b.files)
   pub journal : Grown a b
 
 pub leaves_of : {a b : Core} → Takes Few a b → Leaves a b
-leaves_of t = record { files = λ key bytes e. inl (t.files key bytes e); more = t.more; grown = t.grown; few = t.few; journal = t.journal }
+leaves_of t = record { files = λ key bytes e. inl (t.files key bytes e); more = t.more; grown = t.grown; few = inl t.few; journal = t.journal }
+
+-- where an entry of any kind is made, the one before it came from somewhere
+pub leaves_came : {a b : Core} → Takes (CameFew a) a b → Leaves a b
+leaves_came t = record { files = λ key bytes e. inl (t.files key bytes e); more = t.more; grown = t.grown; few = inr (t.few, t.files); journal = t.journal }
 
 -- what a call changes beside the files, the history and what stands unread
-pub unmoved : (a b : Core) → b.files ≡ a.files → b.history ≡ a.history → b.standing ≡ a.standing → Still a b
-unmoved a b files history standing =
+pub unmoved : (a b : Core) → b.files ≡ a.files → b.history ≡ a.history → b.standing ≡ a.standing → time_of b ≡ time_of a → Still a b
+unmoved a b files history standing time =
     record {
       files = λ key bytes e. subst (λ (fs : List File). file_at fs key ≡ Some bytes) (sym files) e;
       history = history;
       journal = same_journal a b (ap₂ with_unread history standing);
+      timed = timed_same a b history time;
     }
 
 pub still : (core : Core) → Still core core
-still core = unmoved core core refl refl refl
+still core = unmoved core core refl refl refl refl
+
+-- the clock is asked
+pub asked_still : (core : Core) → Still core (asked_clock core)
+asked_still core = record { files = λ key bytes e. e; history = refl; journal = same_journal core (asked_clock core) refl; timed = timed_asked core }
 
 still_on : {a b c : Core} → Still a b → Still b c → Still a c
-still_on {a} {b} {c} s t = record { files = λ key bytes e. t.files key bytes (s.files key bytes e); history = t.history ∙ s.history; journal = grown_on a b c s.journal t.journal }
+still_on {a} {b} {c} s t = record { files = λ key bytes e. t.files key bytes (s.files key bytes e); history = t.history ∙ s.history; journal = grown_on a b c s.journal t.journal; timed = λ k. t.timed (s.timed k) }
 
 pub none : (P : List Entry → Type 0) {a b : Core} → P [] → Still a b → Takes P a b
-none P {a} nil s = record { files = s.files; more = []; grown = s.history ∙ sym (append-nil a.history); few = nil; journal = s.journal }
+none P {a} nil s = record { files = s.files; more = []; grown = s.history ∙ sym (append-nil a.history); few = nil; journal = s.journal; timed = s.timed }
 
 pub takes_none : (core : Core) → Takes Few core core
 takes_none core = none Few tt (still core)
@@ -168,53 +247,82 @@ behind {P} {a} {b} {c} s t =
       grown = t.grown ∙ ap (λ l. l ++ t.more) s.history;
       few = t.few;
       journal = grown_on a b c s.journal t.journal;
+      timed = λ k. t.timed (s.timed k);
     }
 
 pub before : {P : List Entry → Type 0} {a b c : Core} → Takes P a b → Still b c → Takes P a c
 before {P} {a} {b} {c} t s =
-    record { files = λ key bytes e. s.files key bytes (t.files key bytes e); more = t.more; grown = s.history ∙ t.grown; few = t.few; journal = grown_on a b c t.journal s.journal }
+    record { files = λ key bytes e. s.files key bytes (t.files key bytes e); more = t.more; grown = s.history ∙ t.grown; few = t.few; journal = grown_on a b c t.journal s.journal; timed = λ k. s.timed (t.timed k) }
 
 pub same : {P : List Entry → Type 0} {a b c : Core} → Takes P a b → c ≡ b → Takes P a c
 same {P} {a} t e = subst (Takes P a) (sym e) t
 
 pub weaker : (P Q : List Entry → Type 0) {a b : Core} → ((es : List Entry) → P es → Q es) → Takes P a b → Takes Q a b
-weaker P Q f t = record { files = t.files; more = t.more; grown = t.grown; few = f t.more t.few; journal = t.journal }
+weaker P Q f t = record { files = t.files; more = t.more; grown = t.grown; few = f t.more t.few; journal = t.journal; timed = t.timed }
 
-pub and_own : {a b c : Core} → Takes One a b → Takes Own b c → Takes Few a c
-and_own {a} {b} {c} t u =
+-- one behind the other
+pub both : (P Q R : List Entry → Type 0) {a b c : Core} → ((xs ys : List Entry) → P xs → Q ys → R (xs ++ ys)) → Takes P a b → Takes Q b c → Takes R a c
+both P Q R {a} {b} {c} join t u =
     record {
       files = λ key bytes e. u.files key bytes (t.files key bytes e);
       more = t.more ++ u.more;
       grown = u.grown ∙ ap (λ l. l ++ u.more) t.grown ∙ append_assoc a.history t.more u.more;
-      few = joined t.more u.more t.few u.few;
+      few = join t.more u.more t.few u.few;
       journal = grown_on a b c t.journal u.journal;
+      timed = λ k. u.timed (t.timed k);
     }
 
+pub and_own : {a b c : Core} → Takes One a b → Takes Own b c → Takes Few a c
+and_own t u = both One Own Few joined t u
+
+came_joined : (core : Core) (xs ys : List Entry) → CameOne core xs → One ys → CameFew core (xs ++ ys)
+came_joined core [] [] c o = tt
+came_joined core [] (y ∷ []) c o = tt
+came_joined core [] (y ∷ z ∷ ys) c o = absurd o
+came_joined core (x ∷ []) [] c o = tt
+came_joined core (x ∷ []) (y ∷ []) c o = c
+came_joined core (x ∷ []) (y ∷ z ∷ ys) c o = absurd o
+came_joined core (x ∷ w ∷ xs) ys c o = absurd c
+
+pub and_any : {start a b : Core} → Takes (CameOne start) start a → Takes One a b → Takes (CameFew start) start b
+and_any {start} t u = both (CameOne start) One (CameFew start) (came_joined start) t u
+
+pub one_came : (core : Core) (es : List Entry) → One es → CameFew core es
+one_came core [] o = tt
+one_came core (x ∷ []) o = tt
+one_came core (x ∷ y ∷ es) o = absurd o
+
+pub came_few : (core : Core) (es : List Entry) → CameOne core es → CameFew core es
+came_few core [] c = tt
+came_few core (x ∷ []) c = tt
+came_few core (x ∷ y ∷ es) c = absurd c
+
 -- an entry came to stand unread where none did
-pub comes : (core : Core) (entry : Entry) → core.standing ≡ None → (after : Core) → after.files ≡ core.files → after.history ≡ core.history → after.standing ≡ Some entry → Still core after
-comes core entry none after files history standing =
+pub comes : (core : Core) (entry : Entry) → core.standing ≡ None → (after : Core) → after.files ≡ core.files → after.history ≡ core.history → after.standing ≡ Some entry → time_of after ≡ time_of core → Still core after
+comes core entry none after files history standing time =
     record {
       files = λ key bytes e. subst (λ (fs : List File). file_at fs key ≡ Some bytes) (sym files) e;
       history = history;
       journal = (entry ∷ [], ap₂ with_unread history standing ∙ ap (λ l. l ++ entry ∷ []) (sym (ap (with_unread core.history) none)));
+      timed = timed_same core after history time;
     }
 
 -- ---- what lands
 
 entry_still : (standing : Option Entry) (b : Bool) (entry : Entry) (core : Core) → core.standing ≡ standing → Still core (entry_lands standing b entry core)
-entry_still None true entry core q = comes core entry q _ refl refl refl
+entry_still None true entry core q = comes core entry q _ refl refl refl refl
 entry_still None false entry core q = still core
 entry_still (Some standing) b entry core q = still core
 
 file_still : (b : Bool) (key bytes : List ℕ) (core : Core) → Still core (file_lands b key bytes core)
 file_still true key bytes core = still core
-file_still false key bytes core = record { files = stay_more core.files (record { key = key; bytes = bytes } ∷ []); history = refl; journal = same_journal core (file_lands false key bytes core) refl }
+file_still false key bytes core = record { files = stay_more core.files (record { key = key; bytes = bytes } ∷ []); history = refl; journal = same_journal core (file_lands false key bytes core) refl; timed = timed_same core (file_lands false key bytes core) refl refl }
 
-land_still : (late : Option Late) (place : ℕ) (core : Core) → Still core (land_at late place core)
+pub land_still : (late : Option Late) (place : ℕ) (core : Core) → Still core (land_at late place core)
 land_still None place core = still core
-land_still (Some (late_entry number entry bytes)) place core = still_on (entry_still core.standing (number == length core.history) entry core refl) (unmoved _ _ refl refl refl)
-land_still (Some (late_dead key bytes)) place core = unmoved _ _ refl refl refl
-land_still (Some (late_file key bytes)) place core = still_on (file_still (is_some (file_at core.files key)) key bytes core) (unmoved _ _ refl refl refl)
+land_still (Some (late_entry number entry bytes)) place core = still_on (entry_still core.standing (number == length core.history) entry core refl) (unmoved _ _ refl refl refl refl)
+land_still (Some (late_dead key bytes)) place core = unmoved _ _ refl refl refl refl
+land_still (Some (late_file key bytes)) place core = still_on (file_still (is_some (file_at core.files key)) key bytes core) (unmoved _ _ refl refl refl refl)
 
 landed_still : (places : List ℕ) (core : Core) → Still core (all_landed places core)
 landed_still [] core = still core
@@ -223,7 +331,7 @@ landed_still (place ∷ places) core =
 
 pub begun_still : (call : Call) (core : Core) → Still core (begun call core)
 begun_still call core =
-    still_on (unmoved core (record core { store_faults = risen core.store_faults call.rises }) refl refl refl) (landed_still call.lands (record core { store_faults = risen core.store_faults call.rises }))
+    still_on (unmoved core (record core { store_faults = risen core.store_faults call.rises }) refl refl refl refl) (landed_still call.lands (record core { store_faults = risen core.store_faults call.rises }))
 
 -- what stands unread stays
 entry_some : (standing : Option Entry) (b : Bool) (entry one : Entry) (core : Core) → core.standing ≡ standing → core.standing ≡ Some one → (entry_lands standing b entry core).standing ≡ Some one
@@ -234,7 +342,7 @@ file_some : (b : Bool) (key bytes : List ℕ) (one : Entry) (core : Core) → co
 file_some true key bytes one core s = s
 file_some false key bytes one core s = s
 
-land_some : (late : Option Late) (place : ℕ) (one : Entry) (core : Core) → core.standing ≡ Some one → (land_at late place core).standing ≡ Some one
+pub land_some : (late : Option Late) (place : ℕ) (one : Entry) (core : Core) → core.standing ≡ Some one → (land_at late place core).standing ≡ Some one
 land_some None place one core s = s
 land_some (Some (late_entry number entry bytes)) place one core s = entry_some core.standing (number == length core.history) entry one core refl s
 land_some (Some (late_dead key bytes)) place one core s = s
@@ -251,13 +359,13 @@ begun_some call one core s = landed_some call.lands one (record core { store_fau
 -- ---- creates and gets at the end
 
 tried_still : (b : Effect) (standing : Option Entry) (entry : Entry) (core : Core) → core.standing ≡ standing → Still core (tried b standing entry core)
-tried_still done_at_once None entry core q = comes core entry q _ refl refl refl
-tried_still done_at_once (Some other) entry core q = unmoved _ _ refl refl refl
-tried_still done_late standing entry core q = unmoved _ _ refl refl refl
-tried_still done_never standing entry core q = unmoved _ _ refl refl refl
+tried_still done_at_once None entry core q = comes core entry q _ refl refl refl refl
+tried_still done_at_once (Some other) entry core q = unmoved _ _ refl refl refl refl
+tried_still done_late standing entry core q = unmoved _ _ refl refl refl refl
+tried_still done_never standing entry core q = unmoved _ _ refl refl refl refl
 
 behind_still : (standing : Option Entry) (entry : Entry) (core : Core) → core.standing ≡ standing → Still core (made_behind standing entry core).core
-behind_still None entry core q = comes core entry q _ refl refl refl
+behind_still None entry core q = comes core entry q _ refl refl refl refl
 behind_still (Some other) entry core q = still core
 
 made_still : (b : Bool) (c : Effect) (entry : Entry) (core : Core) → Still core (made_at b c entry core).core
@@ -287,17 +395,20 @@ create_fits call entry core = made_fits (may_fail call core.store_faults) call.e
 pub taken_journal : (entry : Entry) (core : Core) → core.standing ≡ Some entry → Grown core (taken_in entry core)
 taken_journal entry core s = same_journal core (taken_in entry core) (sym (ap (with_unread core.history) s))
 
-taken_one : (entry : Entry) (core : Core) → core.standing ≡ Some entry → Takes One core (taken_in entry core)
-taken_one entry core s = record { files = λ key bytes e. e; more = entry ∷ []; grown = refl; few = tt; journal = taken_journal entry core s }
+pub taken_by : (P : List Entry → Type 0) (entry : Entry) (core : Core) → core.standing ≡ Some entry → P (entry ∷ []) → Takes P core (taken_in entry core)
+taken_by P entry core s p = record { files = λ key bytes e. e; more = entry ∷ []; grown = refl; few = p; journal = taken_journal entry core s; timed = timed_taken entry core }
+
+pub taken_one : (entry : Entry) (core : Core) → core.standing ≡ Some entry → Takes One core (taken_in entry core)
+taken_one entry core s = taken_by One entry core s tt
 
 pub taken_own : (entry : Entry) (core : Core) → core.standing ≡ Some entry → IsOwn entry.act → Takes Own core (taken_in entry core)
-taken_own entry core s own = record { files = λ key bytes e. e; more = entry ∷ []; grown = refl; few = own; journal = taken_journal entry core s }
+taken_own entry core s own = taken_by Own entry core s own
 
-taken_unless_one : (b unsure : Bool) (entry : Entry) (core : Core) → core.standing ≡ Some entry → Takes One core (taken_unless b unsure entry core).core
-taken_unless_one true unsure entry core s = none One tt (unmoved _ _ refl refl refl)
-taken_unless_one false unsure entry core s = taken_one entry core s
+pub taken_unless_by : (P : List Entry → Type 0) → P [] → (b unsure : Bool) (entry : Entry) (core : Core) → core.standing ≡ Some entry → P (entry ∷ []) → Takes P core (taken_unless b unsure entry core).core
+taken_unless_by P nil true unsure entry core s p = none P nil (unmoved _ _ refl refl refl refl)
+taken_unless_by P nil false unsure entry core s p = taken_by P entry core s p
 
-or_short_takes : {E A : Type 0} (P : List Entry → Type 0) → P [] → (b : Bool) (e : E) (call : Call) (core : Core) (given : Gives E A) → Takes P core given.core →
+pub or_short_takes : {E A : Type 0} (P : List Entry → Type 0) → P [] → (b : Bool) (e : E) (call : Call) (core : Core) (given : Gives E A) → Takes P core given.core →
     Takes P core (or_short b e call core given).core
 or_short_takes P nil true e call core given t = none P nil (begun_still call core)
 or_short_takes P nil false e call core given t = t
@@ -305,28 +416,31 @@ or_short_takes P nil false e call core given t = t
 asking_takes : {E A : Type 0} (P : List Entry → Type 0) → P [] → (b : Bool) (e : E) (core : Core) (next : Core → Gives E A) → ((c : Core) → Takes P c (next c).core) →
     Takes P core (asking b e core next).core
 asking_takes P nil true e core next t = none P nil (still core)
-asking_takes P nil false e core next t = behind (unmoved _ _ refl refl refl) (t (asked_clock core))
+asking_takes P nil false e core next t = behind (asked_still core) (t (asked_clock core))
 
 then_own : {E A B : Type 0} {start core : Core} (r : Result A E) (next : Core → Gives E B) → Takes One start core → ((c : Core) → Takes Own c (next c).core) →
     Takes Few start (and_then_by r core next).core
 then_own (Ok a) next t u = and_own t (u _)
 then_own (Err e) next t u = weaker One Few one_few t
 
-got_one : (b : Bool) (call : Call) (count : ℕ) (entry : Entry) (core : Core) → core.standing ≡ Some entry → Takes One core (got_at b call count entry core).core
-got_one true call count entry core s = none One tt (unmoved _ _ refl refl refl)
-got_one false call count entry core s = taken_unless_one call.short (core.unsure || is_at_once call.effect) entry core s
+got_by : (P : List Entry → Type 0) → P [] → (b : Bool) (call : Call) (count : ℕ) (entry : Entry) (core : Core) → core.standing ≡ Some entry → P (entry ∷ []) → Takes P core (got_at b call count entry core).core
+got_by P nil true call count entry core s p = none P nil (unmoved _ _ refl refl refl refl)
+got_by P nil false call count entry core s p = taken_unless_by P nil call.short (core.unsure || is_at_once call.effect) entry core s p
+
+pub get_by : (P : List Entry → Type 0) → P [] → (call : Call) (entry : Entry) (count : ℕ) (core : Core) → core.standing ≡ Some entry → P (entry ∷ []) → Takes P core (get_at_end call entry count core).core
+get_by P nil call entry count core s p = behind (begun_still call core) (got_by P nil (may_fail call core.store_faults) call count entry (begun call core) (begun_some call entry core s) p)
 
 pub get_one : (call : Call) (entry : Entry) (count : ℕ) (core : Core) → core.standing ≡ Some entry → Takes One core (get_at_end call entry count core).core
-get_one call entry count core s = behind (begun_still call core) (got_one (may_fail call core.store_faults) call count entry (begun call core) (begun_some call entry core s))
+get_one call entry count core s = get_by One tt call entry count core s tt
 
 -- ---- settling and appending
 
 settle_made_one : (get : Call) (count : ℕ) (fence : Entry) (m : Made) (core : Core) → Fits m fence core → Takes One core (settle_made get count fence m core).core
-settle_made_one get count fence made core f = taken_unless_one get.short true fence core f
+settle_made_one get count fence made core f = taken_unless_by One tt get.short true fence core f tt
 settle_made_one get count fence (exists entry) core f = get_one get entry count core f
 settle_made_one get count fence failed core f = none One tt (still core)
 
-unless_short_still : (b : Bool) (core : Core) → Still core (unless_short b core).core
+pub unless_short_still : (b : Bool) (core : Core) → Still core (unless_short b core).core
 unless_short_still true core = still core
 unless_short_still false core = still core
 
@@ -338,19 +452,23 @@ settle_one true first second core =
 pub settled_one : (first second : Call) (core : Core) → Takes One core (settled first second core).core
 settled_one first second core = settle_one core.unsure first second core
 
-last_made_own : (count : ℕ) (entry : Entry) (m : Made) (core : Core) → IsOwn entry.act → Fits m entry core → Takes Own core (last_made count entry m core).core
-last_made_own count entry made core own f = taken_own entry core f own
-last_made_own count entry (exists other) core own f = none Own tt (still core)
-last_made_own count entry failed core own f = none Own tt (still core)
+module _ (P : List Entry → Type 0) (nil : P []) where
+  last_made_by : (count : ℕ) (entry : Entry) (m : Made) (core : Core) → P (entry ∷ []) → Fits m entry core → Takes P core (last_made count entry m core).core
+  last_made_by count entry made core p f = taken_by P entry core f p
+  last_made_by count entry (exists other) core p f = none P nil (still core)
+  last_made_by count entry failed core p f = none P nil (still core)
 
-last_unless_own : (r : Result ⊤ Unmade) (call : Call) (count : ℕ) (act : Act) (core : Core) → IsOwn act → Takes Own core (last_unless r call count act core).core
-last_unless_own (Err e) call count act core own = none Own tt (still core)
-last_unless_own (Ok done) call count act core own = behind (create_still call (entry_of act core) core) (last_made_own count _ _ _ own (create_fits call (entry_of act core) core))
+  last_unless_by : (r : Result ⊤ Unmade) (call : Call) (count : ℕ) (act : Act) (core : Core) → P (entry_of act core ∷ []) → Takes P core (last_unless r call count act core).core
+  last_unless_by (Err e) call count act core p = none P nil (still core)
+  last_unless_by (Ok done) call count act core p = behind (create_still call (entry_of act core) core) (last_made_by count _ _ _ p (create_fits call (entry_of act core) core))
+
+  pub last_by : (call : Call) (count : ℕ) (act : Act) (core : Core) → P (entry_of act core ∷ []) → Takes P core (last_create call count act core).core
+  last_by call count act core p = or_short_takes P nil call.short _ _ core _ (last_unless_by (may_append act core) call count act core p)
 
 pub last_own : (call : Call) (count : ℕ) (act : Act) (core : Core) → IsOwn act → Takes Own core (last_create call count act core).core
-last_own call count act core own = or_short_takes Own tt call.short _ _ core _ (last_unless_own (may_append act core) call count act core own)
+last_own call count act core own = last_by Own tt call count act core own
 
-troubled_still : {A : Type 0} (r : Result A Trouble) (core : Core) → Still core (troubled_by r core).core
+pub troubled_still : {A : Type 0} (r : Result A Trouble) (core : Core) → Still core (troubled_by r core).core
 troubled_still (Ok a) core = still core
 troubled_still (Err e) core = still core
 
@@ -370,7 +488,7 @@ module _ (act : Core → Act) (own : (c : Core) → IsOwn (act c)) where
       then_own (as_unmade (settled first second core)).answer _ (before (settled_one first second core) (troubled_still _ _)) (λ c. last_own third core.store_faults (act c) c (own c))
   transact_few false first second third core = or_short_takes Few tt first.short _ _ core _ (first_few (may_append (act core) core) first second third core)
 
-  appended_few : (fate : Fate) (core : Core) → Takes Few core (appended fate act core).core
+  pub appended_few : (fate : Fate) (core : Core) → Takes Few core (appended fate act core).core
   appended_few fate core = asking_takes Few tt fate.unasked _ core _ (λ c. transact_few c.unsure fate.first fate.second fate.third c)
 
 -- ---- the other calls
@@ -383,7 +501,7 @@ then_still (Err e) next t s = t
 looked_one : (fate : Fate) (core : Core) → Takes One core (looked fate core).core
 looked_one fate core = then_still (settled fate.first fate.second core).answer _ (settled_one fate.first fate.second core) (λ c. unless_short_still fate.third.short c)
 
-asked_and_looked_one : (fate : Fate) (core : Core) → Takes One core (asked_and_looked fate core).core
+pub asked_and_looked_one : (fate : Fate) (core : Core) → Takes One core (asked_and_looked fate core).core
 asked_and_looked_one fate core = asking_takes One tt fate.unasked _ core _ (λ c. looked_one fate c)
 
 asked_few : (fate : Fate) (core : Core) → Takes Few core (asked fate core).core
@@ -392,12 +510,12 @@ asked_few fate core = asking_takes Few tt fate.unasked _ core _ (λ c. none Few 
 file_by_still : (b : Bool) (c : Effect) (d : Bool) (count : ℕ) (key bytes : List ℕ) (core : Core) → Still core (file_by b c d count key bytes core).core
 file_by_still true done_at_once true count key bytes core = still core
 file_by_still true done_at_once false count key bytes core = file_still false key bytes core
-file_by_still true done_late d count key bytes core = unmoved _ _ refl refl refl
+file_by_still true done_late d count key bytes core = unmoved _ _ refl refl refl refl
 file_by_still true done_never d count key bytes core = still core
 file_by_still false c true count key bytes core = still core
 file_by_still false c false count key bytes core = file_still false key bytes core
 
-file_made_few : (call : Call) (key bytes : List ℕ) (core : Core) → Takes Few core (file_made call key bytes core).core
+pub file_made_few : (call : Call) (key bytes : List ℕ) (core : Core) → Takes Few core (file_made call key bytes core).core
 file_made_few call key bytes core =
     or_short_takes Few tt call.short _ _ core _
     (none Few tt (still_on (begun_still call core) (file_by_still (may_fail call core.store_faults) call.effect _ core.store_faults key bytes (begun call core))))
@@ -405,7 +523,7 @@ file_made_few call key bytes core =
 -- a fetch takes nothing in
 asking_still : {E A : Type 0} (b : Bool) (e : E) (core : Core) (next : Core → Gives E A) → ((c : Core) → Still c (next c).core) → Still core (asking b e core next).core
 asking_still true e core next t = still core
-asking_still false e core next t = still_on (unmoved _ _ refl refl refl) (t (asked_clock core))
+asking_still false e core next t = still_on (asked_still core) (t (asked_clock core))
 
 pub got_still : (b : Bool) (count : ℕ) (call : Call) (core : Core) → Still core (or_short b no_memory call core (got_file (may_fail call core.store_faults) count (begun call core))).core
 got_still true count call core = begun_still call core
@@ -418,7 +536,7 @@ over_still : (over : Bool) (planned_at : ℕ) (core : Core) (otherwise : Gives T
 over_still true planned_at core otherwise t = still core
 over_still false planned_at core otherwise t = t
 
-fetched_still : (grace : Grace) (fate : Fate) (core : Core) → Still core (fetched grace fate core).core
+pub fetched_still : (grace : Grace) (fate : Fate) (core : Core) → Still core (fetched grace fate core).core
 fetched_still grace fate core =
     asking_still fate.unasked _ core _ (λ c. over_still (nat_le grace.until c.moment) grace.planned_at c (file_got fate.first c) (got_still fate.first.short c.store_faults fate.first c))
 
@@ -438,8 +556,11 @@ standing_one : (standing : Option Entry) (core : Core) → core.standing ≡ sta
 standing_one None core q = none One tt (still core)
 standing_one (Some entry) core q = taken_one entry core q
 
+reborn_still : (core : Core) → Still core (reborn core)
+reborn_still core = record { files = λ key bytes e. e; history = refl; journal = same_journal core (reborn core) refl; timed = timed_reborn core }
+
 journal_one : (core : Core) → Takes One core (read_journal core)
-journal_one core = before (standing_one core.standing core refl) (unmoved _ _ refl refl refl)
+journal_one core = before (standing_one core.standing core refl) (reborn_still (with_standing core.standing core))
 
 unless_empty_still : (b : Bool) (core : Core) → Still core (unless_empty b core).core
 unless_empty_still true core = still core
@@ -467,7 +588,7 @@ first_own count entry failed core own f = none Own tt (still core)
 created_by_own : (answer : Result IndexConfig ConfigError) (call : Call) (count : ℕ) (text : List ℕ) (core : Core) → Takes Own core (created_by answer call count text core).core
 created_by_own (Err error) call count text core = none Own tt (still core)
 created_by_own (Ok config) call count text core =
-    behind (unmoved _ _ refl refl refl)
+    behind (asked_still core)
     (behind (create_still call (entry_of (Create text) (asked_clock core)) (asked_clock core)) (first_own count (entry_of (Create text) (asked_clock core)) _ _ tt (create_fits call (entry_of (Create text) (asked_clock core)) (asked_clock core))))
 
 created_own : (answer : Result ⊤ Unread) (call : Call) (count : ℕ) (text : List ℕ) (core : Core) → Takes Own core (created_behind answer call count text core).core

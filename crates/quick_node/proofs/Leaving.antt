@@ -1,6 +1,7 @@
 -- Whatever lands and fails, what a line leaves: a file goes only where its number was freed, and at most an entry that stood there and one of one's own
 -- are taken in. And what an outcome of the collector comes from.
-use Rattle.std.proofs.Common.{◌≡◌, ℕ, ◌<◌, Bool, true, false, List, length, refl, sym, ap, subst}
+use Rattle.std.proofs.Common.{◌≡◌, ℕ, ◌<◌, Bool, true, false, List, [], length, refl, sym, ap, subst, inl}
+use Rattle.std.proofs.lemmas.List.{append-nil}
 use Rattle.std.specs.Prelude.{Option, Some, None, Result, Ok, Err, ⊤}
 use Rattle.meta_store.specs.History.{history}
 use Rattle.meta_store.specs.State.{Legal}
@@ -13,13 +14,17 @@ use Rattle.indexing_run.specs.Places.{Place, idle, reading, staged, uploaded, In
 use Rattle.root_search.specs.Steps.{Request, no_request, opened, planned, Client}
 use Rattle.root_search.specs.declared.outcome.SearchStep.{SearchStep}
 use Rattle.split_collector.specs.Outcomes.{Outcome as CollectorOutcome}
-use Rattle.node_run.specs.Node.{Node, Line, At, Assign, StepIndexer, RestartIndexer, RestartClient, StepCollector, RestartCollector, RestartNode, Open, StepClient, Outcome}
-use Rattle.node_run.specs.Turns.{Luck, Turned, indexer_at, indexing_luck, searching_luck, collecting_luck, said_by_indexer, said_by_client, said_by_collector, assign_at, indexer_turn_by, client_turn_by, collector_turn_by, client_named, open_by, restart_by, full_turn, quiet, or_quiet, turn_by, Turn}
+use Rattle.upkeep_run.specs.Outcomes.{UpkeepOutcome}
+use Rattle.upkeep_run.specs.declared.work.Aim.{Aim}
+use Rattle.upkeep_run.specs.declared.work.Aim.TheVariants.{Merging}
+use Rattle.node_run.specs.Node.{Node, Line, At, Assign, StepIndexer, RestartIndexer, RestartClient, StepMerger, RestartMerger, StepCollector, RestartCollector, RestartNode, Open, StepClient, Outcome}
+use Rattle.node_run.specs.Turns.{Luck, Turned, indexer_at, indexing_luck, searching_luck, collecting_luck, said_by_indexer, said_by_client, said_by_collector, said_by_worker, working_luck, with_merger, worker_turn_by, assign_at, indexer_turn_by, client_turn_by, collector_turn_by, client_named, open_by, restart_by, full_turn, quiet, or_quiet, turn_by, Turn}
 use Rattle.node_run.proofs.CallTells.{AreLow}
 use Rattle.node_run.proofs.Moving.{assign_same, open_same, restart_same}
 use Rattle.quick_node.specs.Collects.{LineCollects}
 use Rattle.quick_node.proofs.Collected.{Did, collector_steps}
-use Rattle.quick_node.proofs.Files.{Few, Leaves, Takes, client_few, indexer_few, leaves_of, loaded_few, none, same, still, unmoved}
+use Rattle.quick_node.proofs.Files.{Few, Leaves, Takes, client_few, indexer_few, leaves_of, loaded_few, none, same, same_journal, still}
+use Rattle.quick_node.proofs.Working.{worker_works}
 
 -- what the collector said is what it did
 abbrev DidSay : Core → Core → Option Outcome → Type 0
@@ -42,6 +47,10 @@ module _ (start after : Core) where
   client_says : (name : List ℕ) (outcome : Option SearchStep) → DidSay start after (said_by_client name outcome)
   client_says name None = tt
   client_says name (Some outcome) = tt
+
+  worker_says : (aim : Aim) (outcome : Option UpkeepOutcome) → DidSay start after (said_by_worker aim outcome)
+  worker_says aim None = tt
+  worker_says aim (Some outcome) = tt
 
   collector_says : (outcome : Option CollectorOutcome) → Did start after outcome → DidSay start after (said_by_collector outcome)
   collector_says None d = tt
@@ -66,6 +75,11 @@ module _ (start after : Core) where
 
 -- ---- a line
 
+-- the clock goes on
+at_leaves : (core : Core) (moment : ℕ) → Leaves core (record core { clock = moment })
+at_leaves core moment =
+    record { files = λ key bytes e. inl e; more = []; grown = sym (append-nil core.history); few = inl tt; journal = same_journal core (record core { clock = moment }) refl }
+
 module _ (luck : Luck) (node : Node) where
   indexer_leaves : (down : Bool) (i : ℕ) → LineLeaves node.core (indexer_turn_by down luck i node)
   indexer_leaves true i = stays (none Few tt (still node.core)) tt
@@ -79,6 +93,12 @@ module _ (luck : Luck) (node : Node) where
       let turn = client_turn_by false luck name node in
       stays (client_few (searching_luck luck) node.log (client_named name node.clients) node.core) (client_says node.core turn.node.core name _)
 
+  merger_leaves : (down : Bool) → LineLeaves node.core (worker_turn_by down Merging node.merger with_merger luck node)
+  merger_leaves true = stays (none Few tt (still node.core)) tt
+  merger_leaves false =
+      let turn = worker_turn_by false Merging node.merger with_merger luck node in
+      record { leaves = (worker_works (working_luck luck) node.log node.core Merging node.merger).leaves; did = worker_says node.core turn.node.core Merging _ }
+
   module _ (some : 0 < length node.core.history) (low : AreLow (length node.core.history) node.core) where
     collector_leaves : (down : Bool) → Legal reads (history (collector_turn_by down luck node).node.core.history) → LineLeaves node.core (collector_turn_by down luck node)
     collector_leaves true legal = stays (none Few tt (still node.core)) tt
@@ -88,13 +108,15 @@ module _ (luck : Luck) (node : Node) where
         record { leaves = s.leaves; did = collector_says node.core turn.node.core _ s.did }
 
     full_leaves : (line : Line) → Legal reads (history (full_turn luck node line).node.core.history) → LineLeaves node.core (full_turn luck node line)
-    full_leaves (At moment) legal = stays (none Few tt (unmoved _ _ refl refl refl)) tt
+    full_leaves (At moment) legal = record { leaves = at_leaves node.core moment; did = tt }
     full_leaves (Assign i names) legal =
         let indexer = indexer_at node.indexers i in
         stays (same (none Few tt (still node.core)) (assign_same indexer.place i names indexer node)) (assign_says node.core (full_turn luck node (Assign i names)).node.core indexer.place i names indexer node)
     full_leaves (StepIndexer i) legal = indexer_leaves node.down i
     full_leaves (RestartIndexer i) legal = stays (none Few tt (still node.core)) tt
     full_leaves (RestartClient name) legal = stays (none Few tt (still node.core)) tt
+    full_leaves StepMerger legal = merger_leaves node.down
+    full_leaves RestartMerger legal = stays (none Few tt (still node.core)) tt
     full_leaves StepCollector legal = collector_leaves node.down legal
     full_leaves RestartCollector legal = stays (none Few tt (still node.core)) tt
     full_leaves RestartNode legal =
@@ -111,6 +133,8 @@ quiet_same (Assign i names) node = refl
 quiet_same (StepIndexer i) node = refl
 quiet_same (RestartIndexer i) node = refl
 quiet_same (RestartClient name) node = refl
+quiet_same StepMerger node = refl
+quiet_same RestartMerger node = refl
 quiet_same StepCollector node = refl
 quiet_same RestartCollector node = refl
 quiet_same RestartNode node = refl

@@ -19,6 +19,7 @@ pub mod LongerLog
 pub mod UpToLast
 pub mod Onces
 pub mod Files
+mod Working
 mod EntryRows
 mod CollectorKeeps
 mod Collected
@@ -30,11 +31,16 @@ mod Caused
 mod NewIndex
 mod FaultCalls
 mod CollectorFaults
+mod WorkerFaults
 mod Faulting
 mod Telling
 mod Catching
 mod Gathered
+mod Lateness
 mod Expiring
+mod Timing
+mod MergeCalls
+mod Merged
 mod Sources
 pub mod Founding
 pub mod Founded

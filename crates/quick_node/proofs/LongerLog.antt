@@ -33,7 +33,7 @@ use Rattle.index_world.specs.Index.{ranges_of, IsRowSound, IsFileLeft, IsRowKept
 use Rattle.index_world.specs.Seen.{meaning, accepted_from, accepted_records, accepted_part, accepted_in, record_count, contents, replaced, place_of}
 use Rattle.index_world.specs.SplitFile.{file_of, facts_of, AreSplit}
 use Rattle.split_bundle.specs.declared.placed.Placed.{Placed}
-use Rattle.indexing_run.proofs.Slices.{part_of, part_more, part_none}
+use Rattle.index_world.proofs.Slices.{part_of, part_more, part_none}
 
 -- ---- a part of a log
 

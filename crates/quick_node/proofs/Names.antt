@@ -9,9 +9,10 @@ use Rattle.index_world.specs.Calls as calls
 use Rattle.index_world.specs.Core.{Core}
 use Rattle.indexing_run.specs.Places.{Place, idle, reading, staged, uploaded}
 use Rattle.root_search.specs.Steps.{Request, no_request, opened, planned, Plan, Client, step_client, without_request}
-use Rattle.node_run.specs.Node.{Node, Line, At, Assign, StepIndexer, RestartIndexer, RestartClient, StepCollector, RestartCollector, RestartNode, Open, StepClient, Outcome}
+use Rattle.upkeep_run.specs.declared.work.Aim.TheVariants.{Merging}
+use Rattle.node_run.specs.Node.{Node, Line, At, Assign, StepIndexer, RestartIndexer, RestartClient, StepMerger, RestartMerger, StepCollector, RestartCollector, RestartNode, Open, StepClient, Outcome}
 use Rattle.node_run.specs.Turns as turning
-use Rattle.node_run.specs.Turns.{Turn, Turned, client_named, with_client, assign_at, indexer_at, indexer_turn_by, client_turn_by, collector_turn_by, searching_luck, open_by, restart_by, full_turn, or_quiet, turn_by}
+use Rattle.node_run.specs.Turns.{Turn, Turned, client_named, with_client, assign_at, indexer_at, indexer_turn_by, client_turn_by, collector_turn_by, searching_luck, open_by, restart_by, full_turn, or_quiet, turn_by, worker_turn_by, with_merger}
 use Rattle.node_run.specs.Standing.{is_known}
 use Rattle.node_run.proofs.Names.{named_name, kept_by_request}
 use Rattle.node_run.proofs.Parts.{searched_name}
@@ -121,6 +122,10 @@ module _ (names : List (List ℕ)) (node : Node) (are : AreNamed names node.clie
   indexer_named true luck i = are
   indexer_named false luck i = are
 
+  merger_named : (down : Bool) (luck : turning.Luck) → AreNamed names (worker_turn_by down Merging node.merger with_merger luck node).node.clients
+  merger_named true luck = are
+  merger_named false luck = are
+
   collector_named : (down : Bool) (luck : turning.Luck) → AreNamed names (collector_turn_by down luck node).node.clients
   collector_named true luck = are
   collector_named false luck = are
@@ -164,6 +169,8 @@ module _ (names : List (List ℕ)) (node : Node) (are : AreNamed names node.clie
   full_named luck (RestartIndexer i) = are
   full_named luck (RestartClient name) =
       kept_named names node.clients are name (without_request (client_named name node.clients)) (named_name name node.clients)
+  full_named luck StepMerger = merger_named node.down luck
+  full_named luck RestartMerger = are
   full_named luck StepCollector = collector_named node.down luck
   full_named luck RestartCollector = are
   full_named luck RestartNode = let given = loaded luck.world node.core in restart_named given.answer given.core
@@ -196,6 +203,8 @@ names_go_on names (Assign i parts ∷ lines) line = names_go_on names lines line
 names_go_on names (StepIndexer i ∷ lines) line = names_go_on names lines line
 names_go_on names (RestartIndexer i ∷ lines) line = names_go_on names lines line
 names_go_on names (RestartClient name ∷ lines) line = names_go_on (with_client_name name names) lines line
+names_go_on names (StepMerger ∷ lines) line = names_go_on names lines line
+names_go_on names (RestartMerger ∷ lines) line = names_go_on names lines line
 names_go_on names (StepCollector ∷ lines) line = names_go_on names lines line
 names_go_on names (RestartCollector ∷ lines) line = names_go_on names lines line
 names_go_on names (RestartNode ∷ lines) line = names_go_on names lines line
@@ -209,6 +218,8 @@ moments_go_on moment (Assign i parts ∷ lines) line = moments_go_on moment line
 moments_go_on moment (StepIndexer i ∷ lines) line = moments_go_on moment lines line
 moments_go_on moment (RestartIndexer i ∷ lines) line = moments_go_on moment lines line
 moments_go_on moment (RestartClient name ∷ lines) line = moments_go_on moment lines line
+moments_go_on moment (StepMerger ∷ lines) line = moments_go_on moment lines line
+moments_go_on moment (RestartMerger ∷ lines) line = moments_go_on moment lines line
 moments_go_on moment (StepCollector ∷ lines) line = moments_go_on moment lines line
 moments_go_on moment (RestartCollector ∷ lines) line = moments_go_on moment lines line
 moments_go_on moment (RestartNode ∷ lines) line = moments_go_on moment lines line

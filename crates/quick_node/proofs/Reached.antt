@@ -1,12 +1,12 @@
 -- What a line leaves: the rows that were published at each revision that it reached have their files behind it.
-use Rattle.std.proofs.Common.{◌≡◌, ◌⊎◌, ℕ, ◌+◌, ◌<◌, ◌≤◌, ◌==◌, Bool, true, false, cond, List, [], ◌∷◌, ◌++◌, length, take, refl, sym, ap, ◌∙◌, subst, inl, inr, append_assoc, arith}
+use Rattle.std.proofs.Common.{◌≡◌, ◌⊎◌, ℕ, ◌+◌, ◌<◌, ◌≤◌, ◌==◌, Bool, true, false, cond, List, [], ◌∷◌, ◌++◌, length, map, take, refl, sym, ap, ◌∙◌, subst, inl, inr, append_assoc, arith}
 use Rattle.std.proofs.lemmas.List.{append-nil, length-append, take_all, take_at, take-append-le}
 use Rattle.std.specs.FinMap.{get}
 use Rattle.std.specs.List.{AllByRecursion}
 use Rattle.std.specs.Prelude.{Option, Some, None}
 use Rattle.delete_tasks.specs.Removes.{DeleteTask}
 use Rattle.index_config.specs.declared.config.IndexConfig.{IndexConfig}
-use Rattle.meta_journal.specs.Places.{split_key}
+use Rattle.meta_journal.specs.Places.{meta_key, split_key}
 use Rattle.meta_journal.specs.declared.entry.Act.{Act}
 use Rattle.meta_journal.specs.declared.entry.Act.TheVariants.{Fence, Create, Stage, Publish, Replace, Raise, Task, MarkStaged, Remove, Retire}
 use Rattle.meta_journal.specs.declared.entry.Entry.{Entry}
@@ -18,6 +18,7 @@ use Rattle.meta_store.proofs.Within.{placed}
 use Rattle.meta_store.specs.History.{History, history}
 use Rattle.meta_store.specs.History.History.{◌▸◌}
 use Rattle.meta_store.specs.Ledgers.{ledger}
+use Rattle.meta_store.specs.Readings.{config_of}
 use Rattle.meta_store.specs.Numbers.{Comes, IsGivenUp, IsPlaced}
 use Rattle.meta_store.specs.Rows.{rows}
 use Rattle.meta_store.specs.State.{Legal}
@@ -30,9 +31,9 @@ use Rattle.index_world.specs.Config.{reads}
 use Rattle.index_world.specs.Configuration.{configuration, config_or, index_of}
 use Rattle.index_world.specs.Core.{Core, Late, late_dead, late_entry, late_file, with_unread, journal_of, file_at}
 use Rattle.index_world.specs.Held.{KeepsHeld, Enters, AfterLanding}
-use Rattle.index_world.specs.Index.{IsIndexOf, IsRowKept, IsRowSound, IsTaken, max_entries}
+use Rattle.index_world.specs.Index.{AreRowsKept, HasFile, IsBelowEnd, IsIndexOf, IsLateEntry, IsRowKept, IsRowSound, IsTaken, MayLand, max_entries}
 use Rattle.index_world.specs.Seen.{contents}
-use Rattle.index_world.specs.Standing.{IsCalled}
+use Rattle.index_world.specs.Standing.{IsCalled, late_object}
 use Rattle.index_world.specs.World.{IsWorld}
 use Rattle.index_world.proofs.Asking.{Begun, begun_history}
 use Rattle.index_world.proofs.Configured.{configured-more, rows_under}
@@ -40,7 +41,8 @@ use Rattle.index_world.proofs.Indexing.{index-HasLanded}
 use Rattle.index_world.proofs.Journals.{once, one-journal}
 use Rattle.index_world.proofs.Numbers.{revision_is}
 use Rattle.index_world.proofs.StoreChanges.{All-each, last_within}
-use Rattle.index_world.proofs.StoreKeys.{split_key-injective, split_outside}
+use Rattle.index_world.proofs.StoreKeys.{meta_begins, meta_key-injective, split_key-injective, split_outside}
+use Rattle.index_world.proofs.Rows.{rows_act}
 use Rattle.index_world.proofs.Taken.{legal_unread, stands_shown}
 use Rattle.node_run.specs.declared.drive.DriveNode.{DriveNode}
 use Rattle.node_run.specs.Node.{Node, Line, Outcome}
@@ -50,7 +52,7 @@ use Rattle.node_run.proofs.CallTells.{IsLow}
 use Rattle.split_bundle.specs.declared.placed.Placed.{Placed}
 use Rattle.quick_node.specs.Collects.{LineCollects}
 use Rattle.quick_node.specs.Once.{published as shown_rows, held_at, IsGivenUpKey, IsStanding, AreStanding, Reaches}
-use Rattle.quick_node.proofs.Files.{Few, Freed, IsOwn, Leaves, leaves_of, takes_none}
+use Rattle.quick_node.proofs.Files.{Among, Came, CameFew, Few, Freed, IsOwn, Leaves, Stay, leaves_of, takes_none}
 use Rattle.quick_node.proofs.Leaving.{LineLeaves, turn_leaves}
 use Rattle.quick_node.proofs.Onces.{covers_at, each_weaker, published_have}
 use Rattle.quick_node.proofs.EntryRows.{marks_leave, removes_leave}
@@ -86,6 +88,18 @@ own_before kept config log h moment (MarkStaged numbers) own legal may all = mar
 own_before kept config log h moment (Remove numbers) own legal may all = removes_leave (λ row. IsRowSound kept config (ledger reads h).tasks log row) h moment legal numbers may all
 own_before kept config log h moment (Retire numbers) own legal may all = absurd own
 
+-- ---- lists
+
+all_among : {X : Type 0} (P : X → Type 0) (xs : List X) (x : X) → AllByRecursion P xs → Among x xs → P x
+all_among P [] x all a = absurd a
+all_among P (y ∷ xs) x all (inl e) = subst P e all.0
+all_among P (y ∷ xs) x all (inr a) = all_among P xs x all.1 a
+
+among_map : {X Y : Type 0} (f : X → Y) (xs : List X) (x : X) → Among x xs → Among (f x) (map f xs)
+among_map f [] x a = a
+among_map f (y ∷ xs) x (inl e) = inl (ap f e)
+among_map f (y ∷ xs) x (inr a) = inr (among_map f xs x a)
+
 -- ---- lengths
 
 lower : (a b : ℕ) → (a ≤ b) ⊎ (b < a)
@@ -111,10 +125,10 @@ Stand stands log es =
     AllByRecursion (λ row. IsStanding stands (config_or (configuration es)) (contents (config_or (configuration es)) (ledger reads (history es)).tasks row log) row) (shown_rows es)
 
 -- what stands in a store stands there
-abbrev Among : State → (List ℕ → Option (List ℕ)) → Type 0
-Among kept stands = (number : ℕ) (bytes : List ℕ) → get kept.objects (split_key number) ≡ Some bytes → stands (split_key number) ≡ Some bytes
+abbrev Stood : State → (List ℕ → Option (List ℕ)) → Type 0
+Stood kept stands = (number : ℕ) (bytes : List ℕ) → get kept.objects (split_key number) ≡ Some bytes → stands (split_key number) ≡ Some bytes
 
-sound_stand : (kept : State) (stands : List ℕ → Option (List ℕ)) (log : Log) (es : List Entry) → Among kept stands → AreSound kept (config_or (configuration es)) log (history es) → Stand stands log es
+sound_stand : (kept : State) (stands : List ℕ → Option (List ℕ)) (log : Log) (es : List Entry) → Stood kept stands → AreSound kept (config_or (configuration es)) log (history es) → Stand stands log es
 sound_stand kept stands log es among all =
     let config = config_or (configuration es) in
     let tasks = (ledger reads (history es)).tasks in
@@ -176,7 +190,7 @@ module _ (old new : State) (core after : Core) (log : Log) (was : IsWorld old co
   taken_legal : Legal reads (history after.history)
   taken_legal = legal_unread after.history after.standing legal
 
-  new_files : Among new (file_at after.files)
+  new_files : Stood new (file_at after.files)
   new_files number bytes e = world.stands_for.files (split_key number) (split_outside number) ∙ e
 
   -- the history before is a front of the whole journal
@@ -236,8 +250,58 @@ module _ (old new : State) (core after : Core) (log : Log) (was : IsWorld old co
       (sound_before new log (core.history ++ x ∷ []) f (subst (λ (es : List Entry). Legal reads (history es)) e taken_legal) own (let l = length-append core.history (x ∷ []) in omega (arith, l))
       (subst (λ (es : List Entry). IsTaken new es log) e world.taken))
 
+  -- ---- behind an entry that came from somewhere, before one of any kind
+
+  journal_here : core.standing ≡ None → journal_of core ≡ core.history
+  journal_here none = ap (with_unread core.history) none
+
+  -- what may land is what it needs
+  may_come : (number : ℕ) (x : Entry) (bytes : List ℕ) → core.standing ≡ None → number ≡ length core.history → Among (late_entry number x bytes) core.late → HasFile old core.history log x.act
+  may_come number x bytes none at among =
+      by (subst (λ (es : List Entry). IsLateEntry old es log (meta_key number, bytes)) (journal_here none)
+      (all_among (IsLateEntry old (journal_of core) log) old.late (meta_key number, bytes) was.index.late_entries
+      (subst (Among (meta_key number, bytes)) was.stands_for.late (among_map late_object core.late (late_entry number x bytes) among))) (meta_begins number))
+    where
+      called : IsCalled core.history (late_entry number x bytes)
+      called = all_among (IsCalled core.history) core.late (late_entry number x bytes) was.stands_for.called among
+
+      by : IsBelowEnd core.history (meta_key number, bytes) ⊎ MayLand old core.history log (meta_key number, bytes) → HasFile old core.history log x.act
+      by (inl below) =
+          let few = few_entries in
+          let low = below.1 in
+          let same : number ≡ below.0 = meta_key-injective number below.0 (omega (arith, at, few)) (omega (arith, low, few)) below.2 in
+          absurd (omega (arith, same, low, at))
+      by (inr land) =
+          let same : land.entry ≡ x = once bytes land.entry x land.enters.can called.1 land.spelled called.2 in
+          subst (λ (e : Entry). HasFile old core.history log e.act) same land.enters.file
+
+  no_file : (act : Act) → act ≡ Fence → HasFile old core.history log act
+  no_file act e = subst (λ (a : Act). HasFile old core.history log a) (sym e) tt
+
+  -- the rows behind it are kept in the store of before
+  entered : (x : Entry) → Legal reads (history (core.history ++ x ∷ [])) → HasFile old core.history log x.act → IsTaken old (core.history ++ x ∷ []) log
+  entered x legal_x file =
+      let step = history-snoc core.history x in
+      let both : Legal reads (history core.history ▸ x) = subst (Legal reads) step legal_x in
+      subst (λ (h : History). AreRowsKept old (index_of (config_of reads h)) (ledger reads h).tasks log h (rows h)) (sym step)
+      (rows_act old core.history log x.moment x.act both.0 both.1.1 file was.taken)
+
+  came_taken : (x : Entry) → Legal reads (history (core.history ++ x ∷ [])) → Came core x → IsTaken old (core.history ++ x ∷ []) log
+  came_taken x legal_x (inl (inl stands)) = subst (λ (es : List Entry). IsTaken old es log) (ap (with_unread core.history) stands) was.index.stands.rows
+  came_taken x legal_x (inl (inr late)) = entered x legal_x (may_come late.1.0 x late.1.1 late.0 late.1.2 late.1.3)
+  came_taken x legal_x (inr fence) = entered x legal_x (no_file x.act fence)
+
+  between_came : (x f : Entry) → after.history ≡ core.history ++ (x ∷ f ∷ []) → Came core x → Stay core.files after.files → Stand (file_at after.files) log (core.history ++ x ∷ [])
+  between_came x f grown came stay =
+      let e : after.history ≡ (core.history ++ x ∷ []) ++ f ∷ [] = grown ∙ sym (append_assoc core.history (x ∷ []) (f ∷ [])) in
+      let both : Legal reads (history (core.history ++ x ∷ []) ▸ f) = subst (Legal reads) (history-snoc (core.history ++ x ∷ []) f) (subst (λ (es : List Entry). Legal reads (history es)) e taken_legal) in
+      sound_stand old (file_at after.files) log (core.history ++ x ∷ []) among (taken_sound old log (core.history ++ x ∷ []) both.0 (came_taken x both.0 came))
+    where
+      among : Stood old (file_at after.files)
+      among number bytes k = stay (split_key number) bytes (was.stands_for.files (split_key number) (split_outside number) ∙ k)
+
   -- before the last entry that was taken in
-  earlier : (revision : ℕ) (more : List Entry) → Few more → after.history ≡ core.history ++ more → length core.history ≤ revision → revision < length after.history →
+  earlier : (revision : ℕ) (more : List Entry) → Few more ⊎ (CameFew core more × Stay core.files after.files) → after.history ≡ core.history ++ more → length core.history ≤ revision → revision < length after.history →
       AreStanding (file_at after.files) revision (journal_of after) log
   earlier revision [] few grown low high = absurd (let l = ap length (grown ∙ append-nil core.history) in omega (arith, l, low, high))
   earlier revision (x ∷ []) few grown low high =
@@ -246,6 +310,10 @@ module _ (old new : State) (core after : Core) (log : Log) (was : IsWorld old co
       (take_unread revision after.history after.standing (omega (arith, high)) ∙ ap (take revision) grown ∙ take_at core.history (x ∷ []) revision (omega (arith, l, low, high))) first
   earlier revision (x ∷ f ∷ []) few grown low high = by (lower revision (length core.history))
     where
+      behind_first : Few (x ∷ f ∷ []) ⊎ (CameFew core (x ∷ f ∷ []) × Stay core.files after.files) → Stand (file_at after.files) log (core.history ++ x ∷ [])
+      behind_first (inl own) = between x f grown own
+      behind_first (inr came) = between_came x f grown came.0 came.1
+
       long : length after.history ≡ length core.history + 2
       long = ap length grown ∙ length-append core.history (x ∷ f ∷ [])
 
@@ -258,8 +326,9 @@ module _ (old new : State) (core after : Core) (log : Log) (was : IsWorld old co
           let l = length-append core.history (x ∷ []) in
           holds revision (core.history ++ x ∷ [])
           (take_unread revision after.history after.standing (omega (arith, high)) ∙ ap (take revision) e ∙ take_at (core.history ++ x ∷ []) (f ∷ []) revision (omega (arith, l, lt, long, high)))
-          (between x f grown few)
-  earlier revision (x ∷ f ∷ g ∷ more) few grown low high = absurd few
+          (behind_first few)
+  earlier revision (x ∷ f ∷ g ∷ more) (inl few) grown low high = absurd few
+  earlier revision (x ∷ f ∷ g ∷ more) (inr few) grown low high = absurd few.0
 
   pub stood : (revision : ℕ) → length core.history ≤ revision → AreStanding (file_at after.files) revision (journal_of after) log
   stood revision low = by (lower (length (journal_of after)) revision) (lower (length after.history) revision)

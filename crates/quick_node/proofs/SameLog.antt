@@ -6,8 +6,9 @@ use Rattle.index_world.specs.Calls as calls
 use Rattle.index_world.specs.Core.{Core}
 use Rattle.indexing_run.specs.Places.{Place, idle, reading, staged, uploaded, Indexer}
 use Rattle.root_search.specs.Steps.{Request, no_request, opened, planned, Client}
-use Rattle.node_run.specs.Node.{Node, Line, At, Assign, StepIndexer, RestartIndexer, RestartClient, StepCollector, RestartCollector, RestartNode, Open, StepClient, Outcome}
-use Rattle.node_run.specs.Turns.{Luck, Turned, indexer_at, assign_at, indexer_turn_by, client_turn_by, collector_turn_by, client_named, open_by, restart_by, full_turn, quiet, or_quiet, turn_by, Turn, Turns}
+use Rattle.upkeep_run.specs.declared.work.Aim.TheVariants.{Merging}
+use Rattle.node_run.specs.Node.{Node, Line, At, Assign, StepIndexer, RestartIndexer, RestartClient, StepMerger, RestartMerger, StepCollector, RestartCollector, RestartNode, Open, StepClient, Outcome}
+use Rattle.node_run.specs.Turns.{Luck, Turned, indexer_at, assign_at, indexer_turn_by, client_turn_by, collector_turn_by, client_named, open_by, restart_by, full_turn, quiet, or_quiet, turn_by, Turn, Turns, worker_turn_by, with_merger}
 use Rattle.quick_node.specs.Running.{StopsShort, HasRun}
 use Rattle.quick_node.specs.Serve.{End, by_reading, no_index, opening_failed, read_failed, write_failed, out_of_memory}
 
@@ -36,6 +37,10 @@ client_log : (down : Bool) (luck : Luck) (name : List ℕ) (node : Node) → (cl
 client_log true luck name node = refl
 client_log false luck name node = refl
 
+merger_log : (down : Bool) (luck : Luck) (node : Node) → (worker_turn_by down Merging node.merger with_merger luck node).node.log ≡ node.log
+merger_log true luck node = refl
+merger_log false luck node = refl
+
 collector_log : (down : Bool) (luck : Luck) (node : Node) → (collector_turn_by down luck node).node.log ≡ node.log
 collector_log true luck node = refl
 collector_log false luck node = refl
@@ -46,6 +51,8 @@ full_log luck node (Assign i names) = assign_log (indexer_at node.indexers i).pl
 full_log luck node (StepIndexer i) = indexer_log node.down luck i node
 full_log luck node (RestartIndexer i) = refl
 full_log luck node (RestartClient name) = refl
+full_log luck node StepMerger = merger_log node.down luck node
+full_log luck node RestartMerger = refl
 full_log luck node StepCollector = collector_log node.down luck node
 full_log luck node RestartCollector = refl
 full_log luck node RestartNode = let given = loaded luck.world node.core in restart_log given.answer given.core node
@@ -58,6 +65,8 @@ quiet_log (Assign i names) node = refl
 quiet_log (StepIndexer i) node = refl
 quiet_log (RestartIndexer i) node = refl
 quiet_log (RestartClient name) node = refl
+quiet_log StepMerger node = refl
+quiet_log RestartMerger node = refl
 quiet_log StepCollector node = refl
 quiet_log RestartCollector node = refl
 quiet_log RestartNode node = refl

@@ -30,11 +30,17 @@ use Rattle.search_api.specs.declared.unanswered.Unanswered.{Unanswered}
 use Rattle.search_api.specs.declared.unanswered.Unanswered.TheVariants as reasons
 use Rattle.split_collector.specs.Outcomes.{Outcome as CollectorOutcome}
 use Rattle.split_collector.specs.Steps.{step_collector}
-use Rattle.node_run.specs.Node.{Node, Line, At, Assign, StepIndexer, RestartIndexer, RestartClient, StepCollector, RestartCollector, RestartNode, Open, StepClient, Outcome, client_said}
+use Rattle.upkeep_run.specs.Outcomes.{UpkeepOutcome}
+use Rattle.upkeep_run.specs.Places as workers
+use Rattle.upkeep_run.specs.Steps.{step_worker}
+use Rattle.upkeep_run.specs.declared.work.Aim.{Aim}
+use Rattle.upkeep_run.specs.declared.work.Aim.TheVariants.{Merging}
+use Rattle.node_run.specs.Node.{Node, Line, At, Assign, StepIndexer, RestartIndexer, RestartClient, StepMerger, RestartMerger, StepCollector, RestartCollector, RestartNode, Open, StepClient, Outcome, client_said}
 use Rattle.node_run.specs.Turns as node_turns
-use Rattle.node_run.specs.Turns.{full_turn, turn_with, turn_by, or_quiet, quiet, Turn, Turns, Turned, client_named, with_client, keep_client, said_by_indexer, indexer_stepped, indexer_turn_by, said_by_client, client_turn_by, client_stepped, collecting_luck, said_by_collector, collector_turn_by, assign_at, open_by, restart_by, indexer_at, indexing_luck, searching_luck}
+use Rattle.node_run.specs.Turns.{full_turn, turn_with, turn_by, or_quiet, quiet, Turn, Turns, Turned, client_named, with_client, keep_client, said_by_indexer, indexer_stepped, indexer_turn_by, said_by_client, client_turn_by, client_stepped, collecting_luck, said_by_collector, collector_turn_by, assign_at, open_by, restart_by, indexer_at, indexing_luck, searching_luck, working_luck, said_by_worker, worker_stepped, worker_turn_by, with_merger}
 use Rattle.node_run.proofs.CallMoves.{Grows, same_grows, asked_and_looked_moves, each_moves, loaded_moves}
 use Rattle.node_run.proofs.CollectorMoves.{collector_moves}
+use Rattle.node_run.proofs.WorkerMoves.{worker_moves}
 use Rattle.node_run.proofs.Moving.{plan_same, indexer_moves, client_moves, turns_later}
 use Rattle.quick_node.specs.Serve.{IsPrefixOf, Known, known_of, after_outcome, config_then, IfFound, AnswersOne, AnswersFrom}
 
@@ -465,6 +471,17 @@ module _ (exit : List Entry) (least : ℕ) (knowns : List Known) (node : Node) (
       let step = step_indexer (indexing_luck luck) node.log (indexer_at node.indexers i) node.core in
       indexer_said_goes step.outcome i (indexer_stepped i node step).node refl (indexer_moves (indexing_luck luck) node.log (indexer_at node.indexers i) node.core).later.grows refl
 
+  worker_said_goes : (aim : Aim) (said : Option UpkeepOutcome) (new : Node) → new.log ≡ node.log → Grows node.core new.core → new.clients ≡ node.clients →
+      TurnGoes exit least knowns node StepMerger (record { said = said_by_worker aim said; node = new })
+  worker_said_goes aim None new log g same = unsaid_goes exit least knowns node StepMerger new
+  worker_said_goes aim (Some o) new log g same = other_goes StepMerger _ new log g same refl tt
+
+  merger_goes : (down : Bool) (luck : node_turns.Luck) → TurnGoes exit least knowns node StepMerger (worker_turn_by down Merging node.merger with_merger luck node)
+  merger_goes true luck = other_goes StepMerger _ node refl (same_grows node.core node.core refl) refl refl tt
+  merger_goes false luck =
+      let step = step_worker Merging (working_luck luck) node.log node.merger node.core in
+      worker_said_goes Merging step.outcome (worker_stepped Merging with_merger node step).node refl (worker_moves (working_luck luck) node.log node.core Merging node.merger).later.grows refl
+
   collector_said_goes : (said : Option CollectorOutcome) (core : Core) → Grows node.core core →
       TurnGoes exit least knowns node StepCollector (record { said = said_by_collector said; node = record node { core = core } })
   collector_said_goes None core g = unsaid_goes exit least knowns node StepCollector (record node { core = core })
@@ -490,6 +507,8 @@ module _ (exit : List Entry) (least : ℕ) (knowns : List Known) (node : Node) (
   full_goes luck (StepIndexer i) l p = indexer_goes node.down luck i
   full_goes luck (RestartIndexer i) l p = other_goes (RestartIndexer i) _ _ refl (same_grows node.core node.core refl) refl refl tt
   full_goes luck (RestartClient name) l p = restarted_goes exit least knowns node name all _ refl tt
+  full_goes luck StepMerger l p = merger_goes node.down luck
+  full_goes luck RestartMerger l p = other_goes RestartMerger _ (with_merger workers.idle node) refl (same_grows node.core node.core refl) refl refl tt
   full_goes luck StepCollector l p = collector_goes node.down luck
   full_goes luck RestartCollector l p = other_goes RestartCollector _ node refl (same_grows node.core node.core refl) refl refl tt
   full_goes luck RestartNode l p =

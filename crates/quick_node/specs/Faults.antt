@@ -12,7 +12,10 @@ use Rattle.search_api.specs.declared.reply.Said.{Said}
 use Rattle.search_api.specs.declared.reply.Said.TheVariants.{Found, Deleted, Refused}
 use Rattle.split_collector.specs.Outcomes.{Outcome as CollectorOutcome}
 use Rattle.split_collector.specs.Outcomes as collecting
-use Rattle.node_run.specs.Node.{NodeFault, world_fault, no_index, Outcome, at_said, assigned, indexer_busy, indexer_said, indexer_down, indexer_restarted, client_restarted, collector_said, collector_down, collector_restarted, node_restarted, node_failed, request_opened, request_busy, client_said, client_down}
+use Rattle.upkeep_run.specs.Outcomes.{UpkeepOutcome}
+use Rattle.upkeep_run.specs.Outcomes as working
+use Rattle.upkeep_run.specs.declared.work.Aim.{Aim}
+use Rattle.node_run.specs.Node.{NodeFault, world_fault, no_index, Outcome, at_said, assigned, indexer_busy, indexer_said, indexer_down, indexer_restarted, client_restarted, worker_said, worker_down, worker_restarted, collector_said, collector_down, collector_restarted, node_restarted, node_failed, request_opened, request_busy, client_said, client_down}
 
 -- a count of faults before something failed and behind it
 pub record Interval : Type 0 where
@@ -60,6 +63,19 @@ indexer_told (indexing.Refused refusal) = []
 indexer_told (indexing.SourceFault before after) = []
 indexer_told (indexing.Faulted fault) = fault_told fault
 
+-- of a merger or a delete worker
+abbrev pub worker_told : UpkeepOutcome → List Interval
+worker_told working.Nothing = []
+worker_told (working.Planned count) = []
+worker_told (working.Fetched number) = []
+worker_told (working.Staged number) = []
+worker_told (working.Uploaded number) = []
+worker_told (working.Replaced number) = []
+worker_told (working.Raised number) = []
+worker_told (working.Lost number refusal) = []
+worker_told (working.Refused refusal) = []
+worker_told (working.Faulted fault) = fault_told fault
+
 abbrev pub collector_told : CollectorOutcome → List Interval
 collector_told (collecting.MarkedStale count) = []
 collector_told (collecting.Doomed number) = []
@@ -82,6 +98,9 @@ store_told (indexer_said indexer outcome) = indexer_told outcome
 store_told (indexer_down indexer) = []
 store_told (indexer_restarted indexer) = []
 store_told (client_restarted name) = []
+store_told (worker_said aim outcome) = worker_told outcome
+store_told (worker_down aim) = []
+store_told (worker_restarted aim) = []
 store_told (collector_said outcome) = collector_told outcome
 store_told collector_down = []
 store_told collector_restarted = []
@@ -116,6 +135,9 @@ log_told i (indexer_said indexer outcome) = if indexer == i then source_told out
 log_told i (indexer_down indexer) = []
 log_told i (indexer_restarted indexer) = []
 log_told i (client_restarted name) = []
+log_told i (worker_said aim outcome) = []
+log_told i (worker_down aim) = []
+log_told i (worker_restarted aim) = []
 log_told i (collector_said outcome) = []
 log_told i collector_down = []
 log_told i collector_restarted = []

@@ -10,6 +10,7 @@ pub mod Faults
 pub mod CaughtUp
 pub mod Collects
 pub mod Expires
+pub mod Replaces
 pub mod Creating
 pub mod Reporting
 pub mod Opening

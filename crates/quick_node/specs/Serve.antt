@@ -33,6 +33,7 @@ use Rattle.quick_node.specs.Collects.{LineCollects, CollectsFrom}
 use Rattle.quick_node.specs.Expires.{ExpiresOver}
 use Rattle.quick_node.specs.Faults.{Interval, AreBetween, store_told, log_told}
 use Rattle.quick_node.specs.Once.{HoldsOnce, CoversAt, AreLeft, Reaches}
+use Rattle.quick_node.specs.Replaces.{ReplacesFrom, RestsFrom}
 use Rattle.quick_node.specs.Reading.{Ending, all_read, bad_line, clients_over, line_over, input_over, stopped, Reads, FailsBehind, max_clients, max_line, max_input}
 
 abbrev pub IsPrefixOf : {X : Type 0} → List X → List X → Type 0
@@ -362,12 +363,17 @@ pub record Drives (history : List Entry) (before : Before) (after : After) (stat
       AreBetween (slice_index before.log_faults i) (flat_map (log_told i) outcomes) (slice_index after.log_faults i)
   -- each indexer says that it caught up exactly where the checkpoints that it saw are the ends of its partitions
   pub catch_up : (i : ℕ) → i < length before.log_faults → CatchesUp exit before.log i (length history) unseen lines outcomes
-  -- a search is refused as Expired only where the deletion grace had passed behind its plan
+  -- a search, or a step of a merger, is refused as Expired only where the deletion grace had passed behind its plan
   pub expires : (config : IndexConfig) → configuration history ≡ Some config → AllByRecursion (ExpiresOver config.deletion_grace) outcomes
   -- what the collector says is what it did, each line behind the journal of those before it
   pub collects : CollectsFrom exit (length history) outcomes
-  -- no line tells that a key is foreign or that an entry of the collector is refused, and what fails but for the entry of an indexer or of the
-  -- collector is the store
+  -- what a merger says is what it did: it replaces exactly the rows that the policy chose at its plan, and a merge is lost only where the journal
+  -- doesn't allow it
+  pub replaces : ReplacesFrom exit 0 (length history) [] lines outcomes
+  -- a merger has nothing to do only where the policy chooses no rows
+  pub rests : RestsFrom exit 0 (length history) lines outcomes
+  -- no line tells that a key is foreign or that an entry of the collector is refused, and what fails but for an entry, or for a fetch that comes
+  -- too late, is the store
   pub tell : AllByRecursion MayTell outcomes
   -- the node of the store at entry did all this, whatever failed
   pub fresh : Node

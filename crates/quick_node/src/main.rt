@@ -184,6 +184,8 @@ fn main(rt: HostRuntime) -> ExitCode {
 #[cfg(test)]
 mod collector_rows;
 #[cfg(test)]
+mod merger_rows;
+#[cfg(test)]
 mod report_rows;
 #[cfg(test)]
 mod script;

@@ -1,6 +1,7 @@
 //! Rows of the commands, from scripts, and a table of failing store calls.
 
 use crate::collector_rows::COLLECTOR_ROWS;
+use crate::merger_rows::MERGER_ROWS;
 use crate::report_rows::REPORT_ROWS;
 use crate::script::ROWS;
 use crate::search_rows::SEARCH_ROWS;
@@ -548,6 +549,11 @@ fn rows_of_searches(rt: HostRuntime) -> Result<(), Fail> {
 #[test]
 fn rows_of_the_collector(rt: HostRuntime) -> Result<(), Fail> {
     do_rows(&rt, rt.alloc(), COLLECTOR_ROWS, 5)
+}
+
+#[test]
+fn rows_of_the_merger(rt: HostRuntime) -> Result<(), Fail> {
+    do_rows(&rt, rt.alloc(), MERGER_ROWS, 11)
 }
 
 const SCHEDULE: &str =

@@ -1,0 +1,119 @@
+-- What each outcome of a merger comes from, by the lines and the journal alone.
+use Rattle.std.specs.Prelude.{◌≡◌, ◌⊎◌, ℕ, ◌<◌, ◌≤◌, max, List, [], ◌∷◌, length, take, slice_get, Option, Some, None, Err, Contains}
+use Rattle.index_config.specs.declared.config.IndexConfig.{IndexConfig}
+use Rattle.merge_policy.specs.Chosen.{chosen}
+use Rattle.meta_journal.specs.declared.entry.Act.TheVariants.{Replace, Stage}
+use Rattle.meta_journal.specs.declared.entry.Entry.{Entry}
+use Rattle.meta_store.specs.History.{history, moment_of}
+use Rattle.meta_store.specs.Rows.{rows}
+use Rattle.meta_store.specs.declared.refusal.Refusal.{Refusal}
+use Rattle.meta_store.specs.declared.refusal.Refusal.TheVariants.{TooManyRows}
+use Rattle.meta_store.specs.declared.refusal.Refusal.TheVariants.{State as BadState}
+use Rattle.split_states.specs.Answers.{IsIn, answer_to_replace}
+use Rattle.split_states.specs.declared.facts.RowFacts.{RowFacts}
+use Rattle.split_states.specs.declared.refusal.StateRefusal.{StateRefusal}
+use Rattle.split_states.specs.declared.rows.RowState.{RowState}
+use Rattle.split_states.specs.declared.rows.RowState.TheVariants.{Staged, Published}
+use Rattle.index_world.specs.Configuration.{configuration, config_or}
+use Rattle.upkeep_run.specs.Outcomes.{UpkeepOutcome}
+use Rattle.upkeep_run.specs.Outcomes as working
+use Rattle.upkeep_run.specs.declared.work.Aim.{Aim}
+use Rattle.upkeep_run.specs.declared.work.Aim.TheVariants.{Merging, Deleting}
+use Rattle.node_run.specs.Node.{Line, Outcome, worker_said, worker_restarted, node_restarted, node_failed}
+use Rattle.quick_node.specs.Reading.{last_moment}
+
+-- ---- the rows that are chosen
+
+-- the moment of a line: the one that `at` told last, or the greatest of so many entries, whichever is later
+abbrev pub moment_at : (clock revision : ℕ) → List Entry → ℕ
+moment_at clock revision entries = max clock (moment_of (history (take revision entries)))
+
+-- which rows the policy of an index chooses at a moment
+abbrev pub chosen_by : IndexConfig → (moment : ℕ) → List Entry → Option (List ℕ)
+chosen_by config moment entries = chosen config.policy config.docs_target moment (rows (history entries))
+
+-- of those behind so many entries of a journal, under the configuration that it names there
+abbrev pub chosen_at : (clock revision : ℕ) → List Entry → Option (List ℕ)
+chosen_at clock revision entries = chosen_by (config_or (configuration (take revision entries))) (moment_at clock revision entries) (take revision entries)
+
+-- ---- what a merger says
+
+-- the entry at this place of a journal, counted from 0, puts one row in the place of these, and applies no task
+abbrev pub IsReplacing : List Entry → (place number : ℕ) → (old : List ℕ) → Type 0
+IsReplacing entries place number old = (entry : Entry) × (slice_get entries place ≡ Some entry) × (entry.act ≡ Replace number old 0)
+
+-- or stages a row without records of its own
+abbrev pub IsStaging : List Entry → (place number : ℕ) → Type 0
+IsStaging entries place number = (entry : Entry) × (facts : RowFacts) × (slice_get entries place ≡ Some entry) × (entry.act ≡ Stage number [] facts)
+
+-- behind so many entries the row of a number stands in this state
+abbrev pub IsThen : RowState → (revision : ℕ) → List Entry → ℕ → Type 0
+IsThen state revision entries number = IsIn state (rows (history (take revision entries))) number
+
+-- behind so many entries one row can't be put in the place of these: it isn't staged, or one of them isn't published
+abbrev pub IsHindered : (revision : ℕ) → List Entry → (number : ℕ) → (old : List ℕ) → Type 0
+IsHindered revision entries number old = (IsThen Staged revision entries number → ⊥) ⊎ ((one : ℕ) × Contains old one × (IsThen Published revision entries one → ⊥))
+
+-- it is refused with the first reason that the rows give
+abbrev pub IsRefused : (revision : ℕ) → List Entry → (number : ℕ) → (old : List ℕ) → Refusal → Type 0
+IsRefused revision entries number old refusal =
+    (reason : StateRefusal) × (answer_to_replace (rows (history (take revision entries))) number old ≡ Err reason) × (refusal ≡ BadState reason)
+
+-- behind so many entries no row more may be staged
+abbrev pub IsCrowded : (revision : ℕ) → List Entry → Refusal → Type 0
+IsCrowded revision entries refusal = (100000 ≤ length (rows (history (take revision entries)))) × (refusal ≡ TooManyRows (length (rows (history (take revision entries)))))
+
+-- What a merger said is what it did, in a line that begins behind `least` entries and ends behind `next`, where it had planned the rows `plan` and
+-- behind it those of `planned`, or none where it is idle. The rows of a plan are those that the policy chose then. What it staged and replaced is an entry of this line, and it
+-- replaces exactly these. A merge is lost only where at a revision of this line the journal doesn't allow it, and refused only where no row more may be
+-- staged.
+abbrev pub Merged : List Entry → (clock least next : ℕ) → (plan planned : List ℕ) → UpkeepOutcome → Type 0
+Merged entries clock least next plan planned working.Nothing = planned ≡ []
+Merged entries clock least next plan planned (working.Planned count) =
+    (revision : ℕ) × (least ≤ revision) × (revision ≤ next) × (chosen_at clock revision entries ≡ Some planned) × (length planned ≡ count)
+Merged entries clock least next plan planned (working.Fetched number) = Contains plan number × (planned ≡ plan)
+Merged entries clock least next plan planned (working.Staged number) = (place : ℕ) × (least ≤ place) × (place < next) × IsStaging entries place number × (planned ≡ plan)
+Merged entries clock least next plan planned (working.Uploaded number) = planned ≡ plan
+Merged entries clock least next plan planned (working.Replaced number) = (place : ℕ) × (least ≤ place) × (place < next) × IsReplacing entries place number plan × (planned ≡ [])
+Merged entries clock least next plan planned (working.Raised number) = ⊥
+Merged entries clock least next plan planned (working.Lost number refusal) =
+    (revision : ℕ) × (least ≤ revision) × (revision ≤ next) × IsHindered revision entries number plan × IsRefused revision entries number plan refusal × (planned ≡ [])
+Merged entries clock least next plan planned (working.Refused refusal) = (revision : ℕ) × (least ≤ revision) × (revision ≤ next) × IsCrowded revision entries refusal × (planned ≡ [])
+Merged entries clock least next plan planned (working.Faulted fault) = planned ≡ []
+
+-- A restart drops the plan, and other outcomes leave it.
+abbrev pub Replaces : List Entry → (clock least next : ℕ) → (plan planned : List ℕ) → Outcome → Type 0
+Replaces entries clock least next plan planned (worker_said Merging outcome) = Merged entries clock least next plan planned outcome
+Replaces entries clock least next plan planned (worker_restarted Merging) = planned ≡ []
+Replaces entries clock least next plan planned (node_restarted revision) = planned ≡ []
+Replaces entries clock least next plan planned (node_failed fault) = planned ≡ []
+Replaces entries clock least next plan planned outcome = planned ≡ plan
+
+-- Where nothing was to be done, the policy chose no rows at a revision and the moment of this line.
+abbrev pub Rested : List Entry → (clock least next : ℕ) → UpkeepOutcome → Type 0
+Rested entries clock least next working.Nothing = (revision : ℕ) × (least ≤ revision) × (revision ≤ next) × (chosen_at clock revision entries ≡ None)
+Rested entries clock least next outcome = Unit {0}
+
+abbrev pub Rests : List Entry → (clock least next : ℕ) → Outcome → Type 0
+Rests entries clock least next (worker_said Merging outcome) = Rested entries clock least next outcome
+Rests entries clock least next outcome = Unit {0}
+
+-- ---- line by line
+
+-- So did each line behind so many entries of the journal at exit, up to where the next one begins: no two of them tell of one entry. The clock is
+-- what `at` told before.
+abbrev pub ReplacesFrom : List Entry → (clock least : ℕ) → (plan : List ℕ) → List Line → List Outcome → Type 0
+ReplacesFrom exit clock least plan [] [] = Unit {0}
+ReplacesFrom exit clock least plan [] (outcome ∷ outcomes) = ⊥
+ReplacesFrom exit clock least plan (line ∷ lines) [] = ⊥
+ReplacesFrom exit clock least plan (line ∷ lines) (outcome ∷ outcomes) =
+    (next : ℕ) × (planned : List ℕ) × (least ≤ next) × (next ≤ length exit) × Replaces exit (last_moment clock (line ∷ [])) least next plan planned outcome
+    × ReplacesFrom exit (last_moment clock (line ∷ [])) next planned lines outcomes
+
+abbrev pub RestsFrom : List Entry → (clock least : ℕ) → List Line → List Outcome → Type 0
+RestsFrom exit clock least [] [] = Unit {0}
+RestsFrom exit clock least [] (outcome ∷ outcomes) = ⊥
+RestsFrom exit clock least (line ∷ lines) [] = ⊥
+RestsFrom exit clock least (line ∷ lines) (outcome ∷ outcomes) =
+    (next : ℕ) × (least ≤ next) × (next ≤ length exit) × Rests exit (last_moment clock (line ∷ [])) least next outcome
+    × RestsFrom exit (last_moment clock (line ∷ [])) next lines outcomes
