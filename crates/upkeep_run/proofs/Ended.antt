@@ -1,10 +1,11 @@
 -- How a step ends, by what its call answered.
-use Rattle.std.proofs.Common.{◌≡◌, refl, subst, sym, Ok, Err, Option}
+use Rattle.std.proofs.Common.{◌≡◌, List, refl, subst, sym, Ok, Err, Option}
+use Rattle.delete_tasks.specs.Removes.{DeleteTask}
 use Rattle.index_config.specs.declared.config.IndexConfig.{IndexConfig}
 use Rattle.index_world.specs.Answering.{Answered}
 use Rattle.object_store.specs.Store.{State as Kept}
 use Rattle.std.specs.Prelude.{IsErr}
-use Rattle.upkeep_run.specs.Ending.{Ends, EndsFrom, EndsStep, Told}
+use Rattle.upkeep_run.specs.Ending.{Ends, EndsDelete, EndsDeleteFrom, EndsFrom, EndsStep, Told}
 use Rattle.upkeep_run.specs.declared.outcome.UpkeepOutcome.{UpkeepOutcome as Said}
 use Rattle.upkeep_run.specs.declared.work.Place.{Place as HeldPlace}
 use Rattle.upkeep_run.specs.declared.work.Place.TheVariants as places
@@ -28,3 +29,8 @@ ends_where Says Others (Err refused) place f idle = idle
 pub ends_from : {W : Type 0} (told : W → Option Kept) (configured : W → IndexConfig) (Answers : W → Answered → W → Type 0) (before : HeldPlace) (result : Told) (place : HeldPlace) (old new : W) (at : HeldPlace) → before ≡ at →
     Ends (EndsFrom at (λ call. Answers old call new) (configured old) (told old) (told new)) result place → EndsStep told configured Answers before result place old new
 ends_from told configured Answers before result place old new at e h = subst (λ (p : HeldPlace). Ends (EndsFrom p (λ call. Answers old call new) (configured old) (told old) (told new)) result place) (sym e) h
+
+pub delete_ends : {W : Type 0} (told : W → Option Kept) (configured : W → IndexConfig) (tasks_kept : W → List DeleteTask) (Answers : W → Answered → W → Type 0) (before : HeldPlace) (result : Told) (place : HeldPlace) (old new : W) (at : HeldPlace) → before ≡ at →
+    Ends (EndsDeleteFrom at (λ call. Answers old call new) (configured old) (tasks_kept old) (told old) (told new)) result place → EndsDelete told configured tasks_kept Answers before result place old new
+delete_ends told configured tasks_kept Answers before result place old new at e h =
+    subst (λ (p : HeldPlace). Ends (EndsDeleteFrom p (λ call. Answers old call new) (configured old) (tasks_kept old) (told old) (told new)) result place) (sym e) h

@@ -20,3 +20,7 @@ pub mod Merging
 pub mod Stays
 pub mod Idling
 pub mod Losing
+pub mod Asked
+pub mod DropSets
+pub mod DropLeaves
+pub mod Leaving

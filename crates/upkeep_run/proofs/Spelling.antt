@@ -1,5 +1,5 @@
 -- The facts of a split that was made of what was read of any files can be spelled in an entry.
-use Rattle.std.proofs.Common.{ℕ, ◌^◌, ◌<◌, ◌≤◌, List, [], length, None, Ok, Err, Result, sym, ap, ◌∙◌, subst, arith}
+use Rattle.std.proofs.Common.{ℕ, ◌^◌, ◌<◌, ◌≤◌, List, length, None, Ok, Err, Result, sym, ap, ◌∙◌, subst, arith}
 use Rattle.std.specs.List.{AllByRecursion}
 use Rattle.sha2.proofs.Facts256.{length-sha256}
 use Rattle.doc_value.specs.declared.facts.FieldTags.{FieldTags}
@@ -29,8 +29,8 @@ merged_can s documents b few h size times =
       rising = subst (λ (ts : List FieldTags). Rises IsFieldBelow ts) (sym one) (fields_rise documents None 0 s.fields tt);
     }
 
-pub files_can : (s : Schema) (files : List (List ℕ)) (b : BuiltSplit) → length s.fields ≤ 256 → MergesFiles s [] files (Ok b) → b.facts.size < 2 ^ 64 → IsIfGiven CanSpellTimes b.facts.times → CanSpellFacts b.facts
-files_can s files b few m size times = by (read_kept s [] m.0) m.2
+pub files_can : (s : Schema) (dropped : List ℕ) (files : List (List ℕ)) (b : BuiltSplit) → length s.fields ≤ 256 → MergesFiles s dropped files (Ok b) → b.facts.size < 2 ^ 64 → IsIfGiven CanSpellTimes b.facts.times → CanSpellFacts b.facts
+files_can s dropped files b few m size times = by (read_kept s dropped m.0) m.2
   where
     by : (read : Result (List Placed) MergeError) → MergesAs s read (Ok b) → CanSpellFacts b.facts
     by (Ok documents) h = merged_can s documents b few h size times

@@ -8,7 +8,7 @@ use Rattle.index_world.specs.Calls.{Fault, Trouble, Unmade, faulted, no_memory, 
 use Rattle.index_world.specs.Gate.{IsTrouble, IsUnmade}
 use Rattle.upkeep_run.specs.Ending.{Told, fault_said, lost_said, unstaged_said}
 use Rattle.upkeep_run.specs.Standing.{Answers}
-use Rattle.upkeep_run.specs.Steps.{stage_outcome, trouble_outcome}
+use Rattle.upkeep_run.specs.Steps.{lost_outcome, stage_outcome, trouble_outcome}
 use Rattle.upkeep_run.specs.declared.outcome.UpkeepOutcome.TheVariants as said
 
 -- but for want of memory
@@ -91,3 +91,20 @@ as_trouble (errors.BadConfig bad) trouble h = absurd h
 pub unstaged_answers : (error : WorldError) (unmade : Unmade) → IsUnmade error unmade → Answers (unstaged_said error) (stage_outcome unmade)
 unstaged_answers error (refused refusal) h = subst (λ (e : WorldError). Answers (unstaged_said e) (stage_outcome (refused refusal))) (sym h) refl
 unstaged_answers error (troubled trouble) h = subst (λ (r : Told). Answers r (trouble_outcome trouble)) (as_trouble error trouble h) (trouble_answers error trouble h)
+
+lost_as_trouble : (number : ℕ) (error : WorldError) (trouble : Trouble) → IsTrouble error trouble → fault_said error ≡ lost_said number error
+lost_as_trouble number (errors.Memory e) trouble h = refl
+lost_as_trouble number (errors.Refused refusal) trouble h = absurd h
+lost_as_trouble number (errors.StoreFault before after) trouble h = refl
+lost_as_trouble number (errors.Missing key) trouble h = absurd h
+lost_as_trouble number (errors.Corrupt key) trouble h = absurd h
+lost_as_trouble number (errors.Foreign key) trouble h = refl
+lost_as_trouble number errors.Full trouble h = refl
+lost_as_trouble number (errors.Expired planned_at reached) trouble h = refl
+lost_as_trouble number errors.NoIndex trouble h = absurd h
+lost_as_trouble number errors.IndexExists trouble h = absurd h
+lost_as_trouble number (errors.BadConfig bad) trouble h = absurd h
+
+pub lost_answers : (number : ℕ) (error : WorldError) (unmade : Unmade) → IsUnmade error unmade → Answers (lost_said number error) (lost_outcome number unmade)
+lost_answers number error (refused refusal) h = subst (λ (e : WorldError). Answers (lost_said number e) (lost_outcome number (refused refusal))) (sym h) refl
+lost_answers number error (troubled trouble) h = subst (λ (r : Told). Answers r (trouble_outcome trouble)) (lost_as_trouble number error trouble h) (trouble_answers error trouble h)

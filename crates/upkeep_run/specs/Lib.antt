@@ -2,6 +2,7 @@ pub mod Outcomes
 pub mod Places
 pub mod Steps
 pub mod Asking
+pub mod Dropping
 pub mod Judging
 pub mod Ending
 pub mod Standing

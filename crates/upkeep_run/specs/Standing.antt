@@ -1,14 +1,17 @@
 -- What a worker of the code stands for, and what its step says.
-use Rattle.std.specs.Prelude.{◌≡◌, ℕ, ◌≤◌, true, List, [], ◌∷◌, length, map, take, drop, decimal, codes, Option, Some, None, Result, Ok, Err, ⊤}
+use Rattle.std.specs.Prelude.{◌≡◌, ℕ, ◌+◌, ◌≤◌, true, List, [], ◌∷◌, length, map, take, drop, decimal, codes, Option, Some, None, Result, Ok, Err, ⊤}
 use Rattle.std.specs.declared.alloc.AllocError.{AllocError}
+use Rattle.meta_store.specs.History.{history}
+use Rattle.meta_store.specs.Ledgers.{ledger}
 use Rattle.meta_store.specs.Planning.{worked_row}
 use Rattle.source_log.specs.Log.{Log}
 use Rattle.index_world.specs.Calls.{Fault, faulted}
-use Rattle.index_world.specs.CallsMade.{CallMade, IsRecorded, of_stage}
+use Rattle.index_world.specs.CallsMade.{CallMade, IsRecorded, of_raise, of_stage}
+use Rattle.index_world.specs.Config.{reads}
 use Rattle.index_world.specs.Core.{Core, IsUnusedIn, journal_of}
-use Rattle.index_world.specs.Gate.{Does, IsTrouble, IsUnmade, WasStaged, stage_call}
+use Rattle.index_world.specs.Gate.{Does, IsRevision, IsTrouble, IsUnmade, WasStaged, raise_call, stage_call}
 use Rattle.index_world.specs.Index.{has_staged}
-use Rattle.index_world.specs.Replacing.{numbers_of}
+use Rattle.index_world.specs.Replacing.{joined, left_in, numbers_of}
 use Rattle.index_world.specs.Saying.{error_words, refusal_words}
 use Rattle.index_world.specs.SplitFile.{file_of}
 use Rattle.index_world.specs.World.{GoesOn}
@@ -16,11 +19,15 @@ use Rattle.index_world.specs.declared.tokens.Plan.{Plan}
 use Rattle.index_world.specs.declared.tokens.Staged.{Staged}
 use Rattle.index_world.specs.declared.world_error.WorldError.{WorldError}
 use Rattle.split_build.specs.declared.builder.BuiltSplit.{BuiltSplit}
+use Rattle.split_bundle.specs.declared.placed.Placed.{Placed}
+use Rattle.split_merge.specs.Keeping.{kept}
+use Rattle.split_merge.specs.Keeping.{joined as all_of}
 use Rattle.upkeep_run.specs.Asking.{ask_of}
-use Rattle.upkeep_run.specs.Ending.{Told, facts_said, unstaged_said, upto_of}
+use Rattle.upkeep_run.specs.Ending.{Told, facts_said, raised_said, unstaged_said, upto_of}
+use Rattle.upkeep_run.specs.Judging.{AreSplits}
 use Rattle.upkeep_run.specs.Outcomes.{UpkeepOutcome, Faulted}
 use Rattle.upkeep_run.specs.Outcomes as outcomes
-use Rattle.upkeep_run.specs.Places.{Held, IsStagedHeld, IsPlannedFor, IsUploadedHeld, IsWork, Place, Work, fetching, held_file, idle, number_held, staged, uploaded}
+use Rattle.upkeep_run.specs.Places.{Held, IsStagedHeld, IsPlannedFor, IsUploadedHeld, IsWork, Place, Work, fetching, held_file, idle, marks_of, number_held, staged, uploaded}
 use Rattle.upkeep_run.specs.Steps.{Luck, step_worker}
 use Rattle.upkeep_run.specs.declared.work.Aim.{Aim}
 use Rattle.upkeep_run.specs.declared.outcome.UpkeepOutcome.{UpkeepOutcome as Said}
@@ -127,6 +134,22 @@ pub record StepsAs {W : Type 0} (Stands : W → Core → Log → Type 0) (Betwee
   pub asked : IsRecorded (ask_of aim place mid) mid behind (outcome ≡ None) made
   -- a number that it holds from now on was not staged before, or is the one that it held
   pub apart : (n : ℕ) → has_staged (journal_of core) n ≡ true → number_held after ≡ Some n → number_held place ≡ Some n
+
+-- ---- what tasks drop
+
+-- Places of planned rows' documents, one list behind the other: whatever documents their files stand for, those that are kept are what
+-- tasks up to the plan's last one leave, and so many fewer.
+pub record LeavesOf (core : Core) (work : Work) (places : List ℕ) : Type 0 where
+  pub left : (lists : List (List Placed)) → AreSplits work.config.schema (map (file_of work.config) work.contents) lists →
+      kept places (all_of lists) ≡ left_in work.config (ledger reads (history core.history)).tasks work.upto (joined (map marks_of work.rows)) (joined lists)
+  pub count : (lists : List (List Placed)) → AreSplits work.config.schema (map (file_of work.config) work.contents) lists → length (kept places (all_of lists)) + length places ≡ length (joined lists)
+
+-- a row was raised, or not
+pub record Raises {W : Type 0} (Stands : W → Core → Log → Type 0) (Between : Core → Core → Type 0) (Owns : W → ℕ → Type 0) (Adds : W → List CallMade → W → Type 0)
+    (number upto : ℕ) (result : Told) (core : Core) (log : Log) (old new : W) : Type 0 where
+  pub answer : Result ℕ WorldError
+  pub does : Does Stands Between Owns Adds None (of_raise number upto) (raise_call number upto) IsUnmade IsRevision answer core log old new
+  pub tells : result ≡ raised_said number answer
 
 -- ---- a split is staged
 

@@ -12,17 +12,18 @@ ghost use Rattle.split_bundle.specs.declared.placed.Placed.{Placed};
 ghost use Rattle.index_world.specs.Calls.{Trouble, Unmade};
 ghost use Rattle.index_world.specs.Core.{Core, IsUnusedIn};
 ghost use Rattle.index_world.specs.Gate.{IsTrouble, IsUnmade};
-ghost use Rattle.index_world.specs.Replacing.{IsReplaceable, numbers_of};
+ghost use Rattle.index_world.specs.Replacing.{IsRaisable, IsReplaceable, numbers_of};
 ghost use Rattle.upkeep_run.specs.Corrupting.{CorruptFetch, FetchedCorrupt};
-ghost use Rattle.upkeep_run.specs.Ending.{Ends, EndsFetch, EndsPlan, EndsReplace, EndsStage, EndsUpload, JudgesFile, TellsJudged, fault_said, lost_said, number_at, rejected_by, rejected_said, unmerged_said, unstaged_said, with_file};
+ghost use Rattle.upkeep_run.specs.Ending.{Ends, EndsFetch, EndsPlan, EndsRaise, EndsReplace, EndsStage, EndsUpload, JudgesFile, TellsJudged, fault_said, lost_said, number_at, rejected_by, rejected_said, unasked_said, unmerged_said, unstaged_said, with_file};
 ghost use Rattle.upkeep_run.specs.Places.{Held, IsPlannedFor, IsStagedHeld, IsUploadedHeld, IsWork, Work as Planned, fetching, held_file, idle, staged as staged_at, uploaded as uploaded_at};
-ghost use Rattle.upkeep_run.specs.Standing.{Answers, HoldsNone, HoldsOwn, PlanHolds, Stages, StepsAs, WorkStands};
+ghost use Rattle.upkeep_run.specs.Standing.{Answers, HoldsNone, HoldsOwn, PlanHolds, Raises, Stages, StepsAs, WorkStands};
 ghost use Rattle.upkeep_run.specs.declared.work.Aim.{Aim};
 ghost use Rattle.upkeep_run.specs.Steps.{choice_of, lost_outcome, stage_outcome, trouble_outcome};
 
 use crate::judging::is_file_of;
 use crate::outcome::UpkeepOutcome;
 use byte_fields::{Bytes, List};
+use doc_sets::LeafError;
 use doc_value::Bytes as SplitBytes;
 use index_world::{Gate, Plan, Staged, Uploaded, WorldError};
 use meta_journal::split_key;
@@ -137,6 +138,17 @@ pub(crate) fn unmerged(rows: &[PlanRow], error: MergeError) -> Result<UpkeepOutc
         MergeError::Memory(refused) => Err(refused),
         MergeError::Split { view, .. } => Ok(corrupt(split_key(number_at(rows, view)))),
         MergeError::Build(_) => Ok(corrupt(split_key(number_at(rows, 0)))),
+    }
+}
+
+/// Why tasks were not asked of the file of the row with this number.
+pub(crate) fn unasked(number: u64, error: LeafError) -> Result<UpkeepOutcome, AllocError>
+    ensures { result ≡ unasked_said number error }
+{
+    match error {
+        LeafError::Memory(refused) => Err(refused),
+        LeafError::Missing { .. } => Ok(corrupt(split_key(number))),
+        LeafError::Corrupt { .. } => Ok(corrupt(split_key(number))),
     }
 }
 
@@ -392,6 +404,27 @@ pub(crate) fn replace_rows<G: Gate>(
     let number = uploaded.number;
     match gate.replace(alloc, plan, uploaded, upto) {
         Ok(_) => Ok(UpkeepOutcome::Replaced { number }),
+        Err(error) => lost(number, error),
+    }
+}
+
+/// Nothing of the file of the plan's first row, which has this number, is dropped: the row is applied up to the plan's last task.
+pub(crate) fn raise_row<G: Gate>(
+    alloc: Global,
+    gate: &mut G,
+    plan: &Plan,
+    number: u64,
+) -> Result<UpkeepOutcome, AllocError>
+    requires first { (row : Row) × (slice_get plan.now.rows 0 ≡ Some row) × (row.number ≡ number) }
+    requires begun { (log : Log) → G.Begins gate.old log → (core : Core) × G.Stands gate.old core log × IsRaisable core number plan.now.upto }
+    ensures later { G.since gate.old gate.new }
+    ensures same { G.bytes_fetched gate.new ≡ G.bytes_fetched gate.old }
+    // Whatever the gate tells.
+    ensures ends { Ends (EndsRaise (λ call. G.Answers gate.old call gate.new) plan.now number) result Place.Idle }
+    ensures step { (core : Core) (log : Log) → G.Stands gate.old core log → IsRaisable core number plan.now.upto → Raises G.Stands G.Between G.Owns G.Adds number plan.now.upto result core log gate.old gate.new }
+{
+    match gate.raise(alloc, plan, 0, plan.upto) {
+        Ok(_) => Ok(UpkeepOutcome::Raised { number }),
         Err(error) => lost(number, error),
     }
 }

@@ -1,4 +1,4 @@
-use Rattle.std.proofs.Common.{◌∙◌, ℕ, List, refl, sym, ap, subst, Ok, Err}
+use Rattle.std.proofs.Common.{[], ◌∙◌, ℕ, List, refl, sym, ap, subst, Ok, Err}
 use Rattle.std.specs.Prelude.{None}
 use Rattle.std.proofs.Math.Logic.{∥∥₁_elim}
 use Rattle.index_world.specs.Configuration.{configuration}
@@ -47,7 +47,7 @@ returns-in-Err-clause-step g c = λ core log planned is stands ws i p done.
 pub stage-requires-clause-can : goal.stage-requires-clause-can
 stage-requires-clause-can g c =
     ∥∥₁_elim c.config.ensures.schema (can_spell_prop c.in-Ok.split.facts)
-    (λ s. files_can c.config.result.now.schema c.as_slice.result.now c.in-Ok.split s.few c.in-Ok.ensures.exact c.facts_fit.ensures.size c.facts_fit.ensures.times)
+    (λ s. files_can c.config.result.now.schema [] c.as_slice.result.now c.in-Ok.split s.few c.in-Ok.ensures.exact c.facts_fit.ensures.size c.facts_fit.ensures.times)
 
 pub returns-in-Ok-clause-corrupt : goal.returns-in-Ok-clause-corrupt
 returns-in-Ok-clause-corrupt g c =
