@@ -1,0 +1,84 @@
+-- Schedules with a delete worker computed whole: what is printed for each line.
+use Rattle.std.proofs.Common.{◌≡◌, ℕ, List, [], ◌∷◌, ◌++◌, refl}
+use Rattle.std.specs.Prelude.{codes, None}
+use Rattle.doc_value.specs.declared.facts.TimeRange.{TimeRange}
+use Rattle.source_checkpoint.specs.declared.delta.Part.{Part}
+use Rattle.source_log.specs.Log.{Log}
+use Rattle.meta_journal.specs.Places.{split_key}
+use Rattle.meta_journal.specs.declared.entry.Act.TheVariants.{Stage, Publish, Task as AddTask}
+use Rattle.meta_journal.specs.declared.entry.Entry.{Entry}
+use Rattle.index_world.specs.Seen.{accepted_in}
+use Rattle.index_world.specs.SplitFile.{file_of, facts_of}
+use Rattle.split_bundle.specs.declared.placed.Placed.{Placed}
+use Rattle.node_run.proofs.OnLiterals.{path_on_literals}
+use Rattle.node_run.proofs.Rows.{a, ask_all, calm_lines, fails_for_good, lines_said, logs_index, new_index, new_node, with_luck}
+use Rattle.node_run.specs.Node.{Node, Line, At, RestartNode, StepDeleter, RestartDeleter}
+use Rattle.node_run.specs.Turns.{opened_node, turns, turns_with}
+
+-- ---- a published split of three records, and a task behind it
+
+abbrev pub log_levels : Log
+log_levels = record { partition = codes "p0"; records = codes "{\"body\":\"red fox\",\"level\":\"err\"}" ∷ codes "oops" ∷ codes "{\"body\":\"red hen\",\"level\":\"info\"}" ∷ [] } ∷ []
+
+abbrev pub delta_levels : List Part
+delta_levels = record { partition = codes "p0"; from = 0; to = 3 } ∷ []
+
+abbrev pub docs_levels : List Placed
+docs_levels = accepted_in logs_index log_levels delta_levels
+
+abbrev pub always : TimeRange
+always = record { start = None; end = None }
+
+abbrev pub published : List Entry
+published =
+    new_index ++ record { moment = 1000; act = Stage 1 delta_levels (facts_of logs_index docs_levels 1) } ∷ record { moment = 1000; act = Publish 1 } ∷ []
+
+abbrev pub with_task : List ℕ → List Entry
+with_task text = published ++ record { moment = 1000; act = AddTask 1 text [] always } ∷ []
+
+abbrev pub node_of : List Entry → Node
+node_of history =
+    opened_node (record {
+      log = log_levels;
+      log_faults = 0 ∷ [];
+      history = history;
+      store_faults = 0;
+      files = record { key = split_key 1; bytes = file_of logs_index docs_levels } ∷ [];
+      late = [];
+    })
+
+abbrev pub d : Line
+d = StepDeleter
+
+-- the document that the task asks for is gone, and the other one stays
+pub split_deleted_of : lines_said (turns (node_of (with_task (codes "level:err"))) (At 1000 ∷ d ∷ d ∷ d ∷ d ∷ d ∷ d ∷ ask_all ∷ a ∷ a ∷ a ∷ []))
+    ≡ codes "at 1000" ∷ codes "deleter planned 1" ∷ codes "deleter fetched 1" ∷ codes "deleter staged 2" ∷ codes "deleter uploaded 2" ∷ codes "deleter replaced 2" ∷ codes "deleter nothing"
+    ∷ codes "a opened" ∷ codes "a planned 6 1" ∷ codes "a fetched 2"
+    ∷ codes "{\"aggregations\":{},\"client\":\"a\",\"hits\":[{\"body\":\"red hen\",\"level\":\"info\"}],\"num_hits\":1,\"revision\":6}" ∷ []
+unfolding path_on_literals
+split_deleted_of = refl
+
+-- a task that asks for none of its documents raises it
+pub split_raised : lines_said (turns (node_of (with_task (codes "level:warn"))) (At 1000 ∷ d ∷ d ∷ d ∷ d ∷ []))
+    ≡ codes "at 1000" ∷ codes "deleter planned 1" ∷ codes "deleter fetched 1" ∷ codes "deleter raised 1" ∷ codes "deleter nothing" ∷ []
+unfolding path_on_literals
+split_raised = refl
+
+-- a restart drops what it holds, and a plan comes too late
+pub deleter_begins_again : lines_said (turns (node_of (with_task (codes "level:err"))) (At 1000 ∷ d ∷ d ∷ RestartDeleter ∷ d ∷ At 1100 ∷ d ∷ d ∷ RestartNode ∷ d ∷ []))
+    ≡ codes "at 1000" ∷ codes "deleter planned 1" ∷ codes "deleter fetched 1" ∷ codes "deleter restarted" ∷ codes "deleter planned 1" ∷ codes "at 1100" ∷ codes "deleter expired 1000 1100"
+    ∷ codes "deleter planned 1" ∷ codes "node restarted 4" ∷ codes "deleter planned 1" ∷ []
+unfolding path_on_literals
+deleter_begins_again = refl
+
+-- without a task there is nothing to do
+pub nothing_deleted : lines_said (turns (node_of published) (At 1000 ∷ d ∷ []))
+    ≡ codes "at 1000" ∷ codes "deleter nothing" ∷ []
+unfolding path_on_literals
+nothing_deleted = refl
+
+-- a node that is down deletes nothing
+pub deleter_is_down : lines_said (turns_with (new_node log_levels (0 ∷ [])) (with_luck fails_for_good RestartNode ∷ calm_lines (d ∷ RestartDeleter ∷ RestartNode ∷ d ∷ [])))
+    ≡ codes "node storefault 0 1" ∷ codes "deleter down" ∷ codes "deleter restarted" ∷ codes "node restarted 1" ∷ codes "deleter nothing" ∷ []
+unfolding path_on_literals
+deleter_is_down = refl
