@@ -21,7 +21,7 @@ use Rattle.indexing_run.proofs.Holding.{indexer_stays}
 use Rattle.indexing_run.specs.Outcomes.{IndexerOutcome}
 use Rattle.indexing_run.specs.Making.{IsAssigned}
 use Rattle.indexing_run.specs.Places.{Indexer, Place, reading, staged, uploaded, idle, is_idle, number_held}
-use Rattle.node_run.specs.Alone.{CollectsAlone, SearchesAlone, StepsAlone, WorksAlone}
+use Rattle.node_run.specs.Alone.{CollectsAlone, SearchesAlone, StepsAlone}
 use Rattle.node_run.specs.Lines.{AreNames}
 use Rattle.node_run.specs.Seen.{seen}
 use Rattle.node_run.specs.declared.line.Line.{Line as CodeLine}
@@ -49,26 +49,23 @@ use Rattle.split_collector.specs.declared.outcome.CollectorOutcome.{CollectorOut
 use Rattle.upkeep_run.specs.Places.{Place as Worker}
 use Rattle.upkeep_run.specs.Places as workers
 use Rattle.upkeep_run.specs.Standing as works
-use Rattle.upkeep_run.specs.declared.work.Aim.{Aim}
 use Rattle.upkeep_run.specs.declared.work.Aim.TheVariants.{Deleting, Merging}
-use Rattle.upkeep_run.specs.declared.outcome.UpkeepOutcome.{UpkeepOutcome as Worked}
 use Rattle.upkeep_run.specs.declared.work.Place.{Place as WorkerPlace}
 use Rattle.node_run.specs.declared.drive.DriveNode.{DriveNode}
 use Rattle.node_run.specs.declared.out_line.OutLine.{OutLine}
 use Rattle.node_run.specs.Lines.{outcome_text}
 use Rattle.node_run.specs.Named.{NamedAt, names_of, HasPlaces}
 use Rattle.node_run.specs.Node.{Node, Line, At, Assign, StepIndexer, RestartIndexer, RestartClient, StepMerger, RestartMerger, StepDeleter, RestartDeleter, StepCollector, RestartCollector, RestartNode, Open, StepClient, Outcome, request_busy, assigned, indexer_busy, node_failed, world_fault, no_index}
-use Rattle.node_run.specs.Standing.{PartsStand, NodeStands, DoesMost, DoesLine, HoldApart, HoldsOther}
-use Rattle.node_run.specs.Turns.{restart_by, Luck, calm, Turn, Turned, turned, full_turn, quiet, assign_at, with_indexer, indexer_at, made_idle, client_named, with_client, keep_client, stopped, restarted, indexer_stepped, client_stepped, indexer_turn_by, client_turn_by, said_by_indexer, said_by_client, said_by_worker, with_deleter, with_merger, worker_stepped, worker_turn_by, collector_stepped, collector_turn_by, said_by_collector, open_by}
+use Rattle.node_run.specs.Standing.{PartsStand, NodeStands, DoesMost, DoesLine, HoldApart}
+use Rattle.node_run.specs.Turns.{restart_by, Luck, calm, Turn, Turned, turned, full_turn, quiet, assign_at, with_indexer, indexer_at, made_idle, client_named, with_client, keep_client, stopped, restarted, indexer_stepped, client_stepped, indexer_turn_by, client_turn_by, said_by_indexer, said_by_client, with_deleter, with_merger, worker_turn_by, collector_stepped, collector_turn_by, said_by_collector, open_by}
 use Rattle.node_run.proofs.Telling.{stands_own}
 use Rattle.node_run.proofs.Names.{with_with, named_set}
 use Rattle.node_run.proofs.Places.{names_with, names_without}
 use Rattle.node_run.proofs.CallMoves.{loaded_moves}
 use Rattle.node_run.proofs.CollectorMoves.{collector_moves}
 use Rattle.node_run.proofs.Moving.{indexer_moves, client_moves}
-use Rattle.node_run.proofs.WorkerMoves.{worker_moves}
-use Rattle.node_run.proofs.Workers.{all_idle_other, idle_work_apart, idle_other, idle_worker_over, other_at, other_of_indexer, other_of_worker, set_other, worker_goes_on, worker_staged}
-use Rattle.node_run.proofs.Zips.{zip_length, zip_weaker, zip_set, zip_at, zip_right, map_set, map_at, others_apart, zip_step, zip_both, all_both, new_apart, idle_apart, idle_all_apart, same_apart, other_of}
+use Rattle.node_run.proofs.Workers.{all_idle_other, idle_work_apart, idle_other, idle_worker_over, other_at, other_of_indexer, set_other, worker_goes_on, worker_staged}
+use Rattle.node_run.proofs.Zips.{zip_length, zip_weaker, zip_set, zip_at, zip_right, map_set, map_at, others_apart, zip_step, new_apart, idle_apart, idle_all_apart, same_apart, other_of}
 
 -- ---- what is answered
 
