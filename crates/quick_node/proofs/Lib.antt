@@ -1,6 +1,10 @@
 pub mod Feeding
 pub mod Written
+pub mod Opened
+mod TaskCauses
+mod Replying
 mod Searching
+pub mod Fronts
 pub mod Living
 pub mod InOneWay
 pub mod Exact
@@ -39,8 +43,13 @@ mod Gathered
 mod Lateness
 mod Expiring
 mod Timing
+mod Prefixes
+mod WorkerLines
+mod Beginning
 mod MergeCalls
 mod Merged
+mod ApplyCalls
+mod Applied
 mod Sources
 pub mod Founding
 pub mod Founded

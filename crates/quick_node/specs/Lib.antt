@@ -1,4 +1,6 @@
 pub mod Reading
+pub mod Fronts
+pub mod Deletes
 pub mod Once
 pub mod Serve
 pub mod Pieces
@@ -11,6 +13,7 @@ pub mod CaughtUp
 pub mod Collects
 pub mod Expires
 pub mod Replaces
+pub mod Applies
 pub mod Creating
 pub mod Reporting
 pub mod Opening
