@@ -1,9 +1,13 @@
 -- What is told as corrupt.
-use Rattle.std.proofs.Common.{◌≡◌, ◌⊎◌, inl, inr, ℕ, zero, suc, ◌==◌, ◌&&◌, Bool, true, false, List, [], ◌∷◌, ◌++◌, take, refl, sym, ap, ◌∙◌, subst, arith, Ok, Err, Option, Some, None, Result}
+use Rattle.std.proofs.Common.{Bool, Err, List, None, Ok, Option, Result, Some, [], ap, arith, cond, false, inl, inr, refl, subst, suc, sym, take, true, zero, ℕ, ◌&&◌, ◌++◌, ◌==◌, ◌∙◌, ◌∷◌, ◌≡◌, ◌≤◌, ◌⊎◌}
 use Rattle.std.specs.Prelude.{IfErr, IsErr, length, slice_get}
 use Rattle.std.specs.declared.alloc.AllocError.{AllocError}
 use Rattle.std.specs.List.{AllZip}
 use Rattle.std.proofs.lemmas.Bool.{and_parts, eqb-true}
+use Rattle.delete_tasks.specs.Removes.{DeleteTask}
+use Rattle.doc_sets.specs.Faults.{IsMemory}
+use Rattle.doc_sets.specs.declared.leaf_error.LeafError.{LeafError}
+use Rattle.doc_sets.specs.declared.leaf_error.LeafError.TheVariants as leaf
 use Rattle.doc_value.specs.declared.schema.Schema.{Schema}
 use Rattle.index_config.specs.declared.config.IndexConfig.{IndexConfig}
 use Rattle.meta_journal.specs.Places.{split_key}
@@ -19,21 +23,21 @@ use Rattle.split_bundle.specs.Files.{Parts, file_bytes}
 use Rattle.split_bundle.specs.Splits.{IsSplit, IsSplitOf}
 use Rattle.split_bundle.specs.declared.placed.Placed.{Placed}
 use Rattle.split_bundle.specs.declared.split_view.SplitView.{SplitView}
-use Rattle.split_merge.specs.Keeping.{ViewsSplit, joined}
+use Rattle.split_merge.specs.Keeping.{ViewsSplit, is_named, joined, kept, kept_from}
 use Rattle.split_merge.specs.Merging.{HasCause, HasFault, IsFaulty, Merges, fault_of}
 use Rattle.split_bundle.specs.declared.split_error.SplitError.{SplitError}
 use Rattle.split_bundle.specs.declared.split_error.SplitError.TheVariants as split
 use Rattle.split_merge.specs.declared.merge_error.MergeError.{MergeError}
 use Rattle.split_merge.specs.declared.merge_error.MergeError.TheVariants.{Build, Memory, Split}
-use Rattle.index_world.specs.Answering.{Answered, plan_answered, replace_answered, stage_answered, upload_answered}
+use Rattle.index_world.specs.Answering.{Answered, plan_answered, raise_answered, replace_answered, stage_answered, upload_answered}
 use Rattle.index_world.specs.Replacing.{numbers_of}
 use Rattle.index_world.specs.declared.tokens.Plan.{Plan}
 use Rattle.index_world.specs.declared.tokens.Staged.{Staged}
 use Rattle.index_world.specs.declared.tokens.Uploaded.{Uploaded}
 use Rattle.index_world.specs.declared.world_error.WorldError.{WorldError}
 use Rattle.index_world.specs.declared.world_error.WorldError.TheVariants as errors
-use Rattle.upkeep_run.specs.Corrupting.{AreOfRow, CorruptFrom, CorruptPiece, CorruptStep, GaveCorrupt, HasOthers, IsCorrupt, IsNone, IsOfOthers, MergedCorrupt, OnlyGiven, PassLimits}
-use Rattle.upkeep_run.specs.Ending.{Ends, EndsPlan, EndsReplace, EndsStage, EndsUpload, TellsPlan, TellsStaged, TellsUploaded, Told, facts_said, fault_said, lost_said, number_at, plan_said, replaced_said, unmerged_said, unstaged_said}
+use Rattle.upkeep_run.specs.Corrupting.{AreOfRow, CorruptClose, CorruptDelete, CorruptDeleteFrom, CorruptFrom, CorruptPiece, CorruptStep, GaveCorrupt, HasOthers, IsCorrupt, IsNone, IsOfOthers, LeftFault, MergedCorrupt, OnlyGiven, PassLimits}
+use Rattle.upkeep_run.specs.Ending.{Ends, EndsPlan, EndsRaise, EndsReplace, EndsStage, EndsUpload, TellsPlan, TellsStaged, TellsUploaded, Told, facts_said, fault_said, lost_said, number_at, plan_said, raised_said, replaced_said, unasked_said, unmerged_said, unstaged_said}
 use Rattle.upkeep_run.specs.Judging.{AgreesWith, AreSplits, HasNoSplit, IsJudged}
 use Rattle.upkeep_run.specs.Steps.{choice_of}
 use Rattle.upkeep_run.specs.declared.outcome.UpkeepOutcome.{UpkeepOutcome as Said}
@@ -295,3 +299,83 @@ module _ (config : IndexConfig) (work : HeldWork) (Gave : Answered → Type 0) w
 pub corrupt_from : {W : Type 0} (configured : W → IndexConfig) (Answers : W → Answered → W → Type 0) (before : HeldPlace) (told : Told) (old new : W) (at : HeldPlace) → before ≡ at →
     CorruptFrom at (λ call. Answers old call new) (configured old) told → CorruptStep configured Answers before told old new
 corrupt_from configured Answers before told old new at e h = subst (λ (p : HeldPlace). CorruptFrom p (λ call. Answers old call new) (configured old) told) (sym e) h
+
+-- ---- of a delete worker
+
+pub raise_gives : (Gave : Answered → Type 0) (plan : Plan) (number : ℕ) (result : Told) (place : HeldPlace) → Ends (EndsRaise Gave plan number) result place → OnlyGiven Gave result
+raise_gives Gave plan number (Err refused) place h = λ key e. none_short refused key e
+raise_gives Gave plan number (Ok outcome) place h = λ key e. by key e h.0 h.1 h.2
+  where
+    by : (key : List ℕ) → IsCorrupt (Ok outcome) key → (answer : Result ℕ WorldError) → Gave (raise_answered number plan.upto answer) → raised_said number answer ≡ Ok outcome → GaveCorrupt Gave key
+    by key e (Ok revision) gave tells = absurd (otherwise (tells ∙ e))
+      where
+        otherwise : raised_said number (Ok revision) ≡ Ok (said.Fault (errors.Corrupt key)) → ⊥
+        otherwise f = cc f
+    by key e (Err error) gave tells = (raise_answered number plan.upto (Err error), gave, ap Some (lost_corrupt number error key (tells ∙ e)))
+
+pub stage_gives : (Gave : Answered → Type 0) (plan : Plan) (built : BuiltSplit) (result : Told) (place : HeldPlace) → Ends (EndsStage Gave plan built) result place → OnlyGiven Gave result
+stage_gives Gave plan built (Err refused) place h = λ key e. none_short refused key e
+stage_gives Gave plan built (Ok outcome) place h = λ key e. by key e h.0 h.1 h.2
+  where
+    staged_otherwise : (number : ℕ) (key : List ℕ) → said.Staged number ≡ said.Fault (errors.Corrupt key) → ⊥
+    staged_otherwise number key e = cc e
+
+    by : (key : List ℕ) → IsCorrupt (Ok outcome) key → (answer : Result Staged WorldError) → Gave (stage_answered [] (facts_said plan.rows built) answer) → TellsStaged plan built answer outcome place → GaveCorrupt Gave key
+    by key e (Ok token) gave tells = absurd (staged_otherwise token.number key (sym tells.0 ∙ same_said outcome key e))
+    by key e (Err error) gave tells = (stage_answered [] (facts_said plan.rows built) (Err error), gave, ap Some (unstaged_corrupt error key (tells.0 ∙ e)))
+
+-- what is kept of documents within the limits is within them
+pub kept_within : (place : ℕ) (dropped : List ℕ) (ds : List Placed) → (length (kept_from place dropped ds) ≤ length ds) × (total_weight (kept_from place dropped ds) ≤ total_weight ds)
+kept_within place dropped [] = (omega arith, omega arith)
+kept_within place dropped (d ∷ ds) = by (is_named place dropped) (kept_within (suc place) dropped ds)
+  where
+    by : (b : Bool) → (length (kept_from (suc place) dropped ds) ≤ length ds) × (total_weight (kept_from (suc place) dropped ds) ≤ total_weight ds) →
+        (length (cond b (kept_from (suc place) dropped ds) (d ∷ kept_from (suc place) dropped ds)) ≤ length (d ∷ ds)) × (total_weight (cond b (kept_from (suc place) dropped ds) (d ∷ kept_from (suc place) dropped ds)) ≤ total_weight (d ∷ ds))
+    by true rest = let many = rest.0 in let heavy = rest.1 in (omega (arith, many), omega (arith, heavy))
+    by false rest = let many = rest.0 in let heavy = rest.1 in (omega (arith, many), omega (arith, heavy))
+
+within_kept : (dropped : List ℕ) (ds : List Placed) → AreWithin ds → AreWithin (kept dropped ds)
+within_kept dropped ds w =
+    let less = kept_within 0 dropped ds in
+    let many = less.0 in
+    let heavy = less.1 in
+    let few = w.few in
+    let light = w.light in
+    record { few = omega (arith, many, few); light = omega (arith, heavy, light) }
+
+-- nothing was made of what is left
+pub left_corrupt : (config : IndexConfig) (work : HeldWork) (Gave : Answered → Type 0) (dropped : List ℕ) (error : MergeError) → HasNoSplit config.schema work.files error →
+    ((lists : List (List Placed)) → AreSplits config.schema work.files lists → Merges config.schema (kept dropped (joined lists)) (Err error)) → (told : Told) → told ≡ unmerged_said work.plan.rows error → (key : List ℕ) → IsCorrupt told key → LeftFault Gave config work key
+left_corrupt config work Gave dropped (Memory refused) none merges told is key e = none_short refused key (sym is ∙ e)
+left_corrupt config work Gave dropped (Split number x) none merges told is key e =
+    inr (inl (record { number = number; bytes = none.0; fetched = none.1; none = none.2; of = same_key (split_key (number_at work.plan.rows number)) key (sym is ∙ e) }))
+left_corrupt config work Gave dropped (Build x) none merges told is key e =
+    inr (inr (same_key (split_key (number_at work.plan.rows 0)) key (sym is ∙ e), λ lists are within. not_within (kept dropped (joined lists)) x (build_none (kept dropped (joined lists)) x (merges lists are)) (within_kept dropped (joined lists) within)))
+  where
+    build_none : (ds : List Placed) (e : BuildError) → Merges config.schema ds (Err (Build e)) → Merges_build ds e
+    build_none ds (build.Memory a) h = h
+    build_none ds (build.TooManyDocs count) h = h
+    build_none ds (build.TooLarge weight) h = h
+
+-- nothing was to be done
+pub nothing_close : (row : Option PlanRow) (file : Option (List ℕ)) (Gave : Answered → Type 0) (config : IndexConfig) (tasks : List DeleteTask) (work : HeldWork) → CorruptClose row file Gave config tasks work (Ok said.Nothing)
+nothing_close row file Gave config tasks work = by row file
+  where
+    never : {A : Type 0} (key : List ℕ) → IsCorrupt (Ok said.Nothing) key → A
+    never key e = absurd (cc e)
+
+    by : (row : Option PlanRow) (file : Option (List ℕ)) → CorruptClose row file Gave config tasks work (Ok said.Nothing)
+    by None file = λ key e. never key e
+    by (Some row) None = λ key e. never key e
+    by (Some row) (Some bytes) = λ key e. never key e
+
+pub unasked_corrupt : (number : ℕ) (error : LeafError) (Unasked : Type 0) → IsMemory error ⊎ Unasked → (told : Told) → told ≡ unasked_said number error → (key : List ℕ) → IsCorrupt told key → (key ≡ split_key number) × Unasked
+unasked_corrupt number (leaf.Memory a) Unasked why told is key e = none_short a key (sym is ∙ e)
+unasked_corrupt number (leaf.Missing at) Unasked (inl memory) told is key e = absurd memory
+unasked_corrupt number (leaf.Missing at) Unasked (inr un) told is key e = (same_key (split_key number) key (sym is ∙ e), un)
+unasked_corrupt number (leaf.Corrupt section) Unasked (inl memory) told is key e = absurd memory
+unasked_corrupt number (leaf.Corrupt section) Unasked (inr un) told is key e = (same_key (split_key number) key (sym is ∙ e), un)
+
+pub corrupt_delete : {W : Type 0} (configured : W → IndexConfig) (tasks_kept : W → List DeleteTask) (Answers : W → Answered → W → Type 0) (before : HeldPlace) (told : Told) (old new : W) (at : HeldPlace) → before ≡ at →
+    CorruptDeleteFrom at (λ call. Answers old call new) (configured old) (tasks_kept old) told → CorruptDelete configured tasks_kept Answers before told old new
+corrupt_delete configured tasks_kept Answers before told old new at e h = subst (λ (p : HeldPlace). CorruptDeleteFrom p (λ call. Answers old call new) (configured old) (tasks_kept old) told) (sym e) h

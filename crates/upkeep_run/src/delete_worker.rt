@@ -1,6 +1,6 @@
 //! A delete worker and its steps.
 
-ghost use Rattle.std.specs.Prelude.{◌≡◌, ◌≢◌, ◌↔◌, ◌⊎◌, [], List, None, Some, IsTrue, MatchResult, slice_get};
+ghost use Rattle.std.specs.Prelude.{◌≡◌, ◌≢◌, ◌↔◌, ◌⊎◌, [], ℕ, List, None, Some, IsTrue, MatchResult, slice_get};
 ghost use Rattle.doc_sets.specs.Faults.{IsMemory};
 ghost use Rattle.source_log.specs.Log.{IsLog, Log};
 ghost use Rattle.split_merge.specs.Keeping.{RiseFrom};
@@ -9,6 +9,7 @@ ghost use Rattle.index_world.specs.Core.{Core, IsConfigured};
 ghost use Rattle.meta_store.specs.History.{history};
 ghost use Rattle.meta_store.specs.Ledgers.{ledger};
 ghost use Rattle.meta_store.specs.declared.planning.PlanRow.{PlanRow as Row};
+ghost use Rattle.upkeep_run.specs.Corrupting.{CorruptClose, CorruptDelete, CorruptDeleteAt, IsCorrupt, LeftFault};
 ghost use Rattle.upkeep_run.specs.Dropping.{DropsOf, IsUnasked};
 ghost use Rattle.upkeep_run.specs.Ending.{Ends, EndsClose, EndsDelete, EndsDeleteAt, EndsDropped, EndsLeft, spans_of, tasks_asked};
 ghost use Rattle.upkeep_run.specs.Places.{IsPlannedFor, IsWork, Place as Stand, Work as Planned, fetching, idle, is_idle};
@@ -105,6 +106,7 @@ impl DeleteWorker {
         ensures owns { HoldsOwn G.Owns gate.new self.new.place }
         // Whatever the gate tells.
         ensures ends { Ends (EndsLeft dropped.now (λ call. G.Answers gate.old call gate.new) (G.configured gate.old) work) result self.new.place }
+        ensures corrupt { (key : List ℕ) → IsCorrupt result key → LeftFault (λ call. G.Answers gate.old call gate.new) (G.configured gate.old) work key }
         ensures step { (core : Core) (log : Log) (planned : Planned) → IsLog log → G.Stands gate.old core log → WorkStands work planned → IsWork log core planned → IsPlannedFor Deleting planned →
             planned.unfetched ≡ [] → LeavesOf core planned dropped.now → (dropped.now ≢ []) →
             StepsAs G.Stands G.Between G.Owns G.Adds Deleting result (fetching planned) core log self.new.place gate.old gate.new }
@@ -140,6 +142,7 @@ impl DeleteWorker {
         ensures owns { HoldsOwn G.Owns gate.new self.new.place }
         // Whatever the gate tells.
         ensures ends { (row : Row) → slice_get work.plan.rows 0 ≡ Some row → Ends (EndsDropped dropped.now row (λ call. G.Answers gate.old call gate.new) (G.configured gate.old) work) result self.new.place }
+        ensures corrupt { (key : List ℕ) → IsCorrupt result key → LeftFault (λ call. G.Answers gate.old call gate.new) (G.configured gate.old) work key }
         ensures step { (core : Core) (log : Log) (planned : Planned) → IsLog log → G.Stands gate.old core log → WorkStands work planned → IsWork log core planned → IsPlannedFor Deleting planned →
             planned.unfetched ≡ [] → LeavesOf core planned dropped.now →
             StepsAs G.Stands G.Between G.Owns G.Adds Deleting result (fetching planned) core log self.new.place gate.old gate.new }
@@ -164,6 +167,7 @@ impl DeleteWorker {
         ensures owns { HoldsOwn G.Owns gate.new self.new.place }
         // Whatever the gate tells.
         ensures ends { Ends (EndsClose (slice_get work.plan.rows 0) (slice_get work.files 0) (λ call. G.Answers gate.old call gate.new) (G.configured gate.old) (G.tasks_kept gate.old) work) result self.new.place }
+        ensures corrupt { CorruptClose (slice_get work.plan.rows 0) (slice_get work.files 0) (λ call. G.Answers gate.old call gate.new) (G.configured gate.old) (G.tasks_kept gate.old) work result }
         ensures step { (core : Core) (log : Log) (planned : Planned) → IsLog log → G.Stands gate.old core log → WorkStands work planned → IsWork log core planned → IsPlannedFor Deleting planned →
             planned.unfetched ≡ [] →
             StepsAs G.Stands G.Between G.Owns G.Adds Deleting result (fetching planned) core log self.new.place gate.old gate.new }
@@ -201,6 +205,7 @@ impl DeleteWorker {
         ensures owns { HoldsOwn G.Owns gate.new self.new.place }
         // Whatever the gate tells.
         ensures ends { Ends (EndsDeleteAt (slice_get work.plan.rows work.next) (λ call. G.Answers gate.old call gate.new) (G.configured gate.old) (G.tasks_kept gate.old) work (G.told gate.old) (G.told gate.new)) result self.new.place }
+        ensures corrupt { CorruptDeleteAt (slice_get work.plan.rows work.next) (λ call. G.Answers gate.old call gate.new) (G.configured gate.old) (G.tasks_kept gate.old) work result }
         ensures step { (core : Core) (log : Log) (planned : Planned) → IsLog log → G.Stands gate.old core log → WorkStands work planned → IsWork log core planned → IsPlannedFor Deleting planned →
             StepsAs G.Stands G.Between G.Owns G.Adds Deleting result (fetching planned) core log self.new.place gate.old gate.new }
     {
@@ -225,6 +230,9 @@ impl DeleteWorker {
         ensures ends { EndsDelete G.told G.configured G.tasks_kept G.Answers self.old.place result self.new.place gate.old gate.new }
         ensures step { (place : Stand) (core : Core) (log : Log) → IsLog log → PlaceStands Deleting log core self.old.place place → G.Stands gate.old core log →
             StepsAs G.Stands G.Between G.Owns G.Adds Deleting result place core log self.new.place gate.old gate.new }
+        // Whatever the gate tells: the row's file is corrupt only where its bytes stand for no documents, for others than the row's facts
+        // say, or for none of which all tasks can be asked, and always at its fetch where they stand for others than the row's facts say.
+        ensures corrupt { CorruptDelete G.configured G.tasks_kept G.Answers self.old.place result gate.old gate.new }
     {
         match mem::replace(&mut self.place, Place::Idle) {
             Place::Idle => plan(alloc, gate, Aim::Deleting, &mut self.place),

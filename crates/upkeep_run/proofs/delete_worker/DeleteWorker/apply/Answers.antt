@@ -1,4 +1,4 @@
-use Rattle.std.proofs.Common.{◌≡◌, ◌∙◌, [], sym, ap, subst}
+use Rattle.std.proofs.Common.{◌≡◌, ◌∙◌, [], sym, ap, subst, inl}
 use Rattle.index_world.specs.Answering.{Answered}
 use Rattle.meta_store.specs.declared.planning.PlanRow.{PlanRow}
 use Rattle.upkeep_run.specs.Places.{fetching}
@@ -10,6 +10,8 @@ use Rattle.upkeep_run.proofs.DropLeaves.{no_items, some_items}
 use Rattle.upkeep_run.proofs.Judged.{same_row}
 use Rattle.upkeep_run.proofs.Leaving.{left_ends, number_is, raisable_as, raised_ends, raises}
 use Rattle.upkeep_run.proofs.Told.{lost_answers}
+use Rattle.upkeep_run.specs.declared.work.Place.TheVariants as places
+use Rattle.upkeep_run.proofs.Corrupted.{raise_gives}
 use Rattle.upkeep_run.proofs.delete_worker.DeleteWorker.apply.Goals as goal
 
 pub raise_row-requires-clause-begun : goal.raise_row-requires-clause-begun
@@ -39,3 +41,6 @@ returns-clause-ends g c = λ (row : PlanRow) there.
 
 pub returns-clause-step : goal.returns-clause-step
 returns-clause-step g c = λ core log planned is stands ws i p done leaves. c.rebuild.ensures.step core log planned is stands ws i p done leaves (some_items c.args.dropped.now c.is_empty.result c.is_empty.ensures c.if-is_empty.false)
+
+pub returns-then-is_empty-clause-corrupt : goal.returns-then-is_empty-clause-corrupt
+returns-then-is_empty-clause-corrupt g c = λ key e. inl (raise_gives (λ (call : Answered). g.G.Gate.Answers c.args.gate.now call c.raise_row.new.gate) c.args.work.plan c.args.number c.raise_row.result places.Idle c.raise_row.ensures.ends key e)

@@ -1,4 +1,4 @@
-use Rattle.std.proofs.Common.{◌≡◌, ◌∙◌, ℕ, List, Some, sym, ap, subst}
+use Rattle.std.proofs.Common.{◌≡◌, ◌∙◌, ℕ, List, Some, sym, ap, subst, inl, inr}
 use Rattle.std.specs.Prelude.{Option, slice_get}
 use Rattle.index_world.specs.Answering.{Answered}
 use Rattle.meta_store.specs.declared.planning.PlanRow.{PlanRow}
@@ -6,6 +6,9 @@ use Rattle.upkeep_run.specs.Dropping.{DropsOf}
 use Rattle.upkeep_run.specs.Ending.{Ends, EndsClose, spans_of, tasks_asked}
 use Rattle.upkeep_run.specs.Standing.{LeavesOf}
 use Rattle.upkeep_run.proofs.Leaving.{dropped_ends, leave_short, leaves_as, unasked_ends, want_alone}
+use Rattle.upkeep_run.specs.Corrupting.{CorruptClose}
+use Rattle.upkeep_run.specs.Dropping.{IsUnasked}
+use Rattle.upkeep_run.proofs.Corrupted.{unasked_corrupt}
 use Rattle.upkeep_run.proofs.delete_worker.DeleteWorker.close.Goals as goal
 
 pub apply-requires-clause-begun : goal.apply-requires-clause-begun
@@ -67,3 +70,25 @@ returns-in-Err-clause-ends g c =
     subst (λ (o : Option PlanRow). Ends (EndsClose o (slice_get work.files 0) Gave config kept work) c.unasked.result c.args.self.now.place) (sym c.at-row.ensures)
     (subst (λ (o : Option (List ℕ)). Ends (EndsClose (Some row) o Gave config kept work) c.unasked.result c.args.self.now.place) (sym file)
     (unasked_ends row Gave config work c.unasked.result c.args.self.now.place kept bytes c.in-Err.error c.in-Err.ensures.drops c.unasked.ensures c.requires.idle))
+
+pub returns-in-Ok-clause-corrupt : goal.returns-in-Ok-clause-corrupt
+returns-in-Ok-clause-corrupt g c =
+    let Gave : Answered → Type 0 = λ (call : Answered). g.G.Gate.Answers c.args.gate.now call c.apply.new.gate in
+    let config = g.G.Gate.configured c.args.gate.now in
+    let kept = g.G.Gate.tasks_kept c.args.gate.now in
+    let work = c.args.work in
+    let file : slice_get work.files 0 ≡ Some c.as_slice.result.now = c.at.ensures ∙ ap Some (sym c.as_slice.ensures) in
+    subst (λ (o : Option PlanRow). CorruptClose o (slice_get work.files 0) Gave config kept work c.apply.result) (sym c.at-row.ensures)
+    (subst (λ (o : Option (List ℕ)). CorruptClose (Some c.at-row.result.now) o Gave config kept work c.apply.result) (sym file) (λ key e. inr (c.apply.ensures.corrupt key e)))
+
+pub returns-in-Err-clause-corrupt : goal.returns-in-Err-clause-corrupt
+returns-in-Err-clause-corrupt g c =
+    let Gave : Answered → Type 0 = λ (call : Answered). g.G.Gate.Answers c.args.gate.now call c.args.gate.now in
+    let config = g.G.Gate.configured c.args.gate.now in
+    let kept = g.G.Gate.tasks_kept c.args.gate.now in
+    let work = c.args.work in
+    let row = c.at-row.result.now in
+    let file : slice_get work.files 0 ≡ Some c.as_slice.result.now = c.at.ensures ∙ ap Some (sym c.as_slice.ensures) in
+    subst (λ (o : Option PlanRow). CorruptClose o (slice_get work.files 0) Gave config kept work c.unasked.result) (sym c.at-row.ensures)
+    (subst (λ (o : Option (List ℕ)). CorruptClose (Some row) o Gave config kept work c.unasked.result) (sym file)
+    (λ key e. inl (unasked_corrupt row.number c.in-Err.error (IsUnasked config.schema (tasks_asked kept work.plan.upto row) c.as_slice.result.now) c.in-Err.ensures.drops c.unasked.result c.unasked.ensures key e)))

@@ -1,4 +1,4 @@
-use Rattle.std.proofs.Common.{◌∙◌, ℕ, List, sym, ap, subst}
+use Rattle.std.proofs.Common.{◌∙◌, ℕ, List, sym, ap, subst, inl}
 use Rattle.std.specs.Prelude.{None}
 use Rattle.std.proofs.Math.Logic.{∥∥₁_elim}
 use Rattle.index_world.specs.Configuration.{configuration}
@@ -13,6 +13,11 @@ use Rattle.upkeep_run.proofs.Leaving.{leave_short, left_built, left_fault, left_
 use Rattle.upkeep_run.proofs.Planning.{same_config}
 use Rattle.upkeep_run.proofs.Spelling.{files_can}
 use Rattle.upkeep_run.proofs.Told.{unstaged_answers}
+use Rattle.index_config.specs.declared.config.IndexConfig.{IndexConfig}
+use Rattle.index_world.specs.Answering.{Answered}
+use Rattle.upkeep_run.specs.Corrupting.{IsCorrupt, LeftFault}
+use Rattle.upkeep_run.specs.Judging.{HasNoSplit}
+use Rattle.upkeep_run.proofs.Corrupted.{left_corrupt, stage_gives}
 use Rattle.upkeep_run.proofs.delete_worker.DeleteWorker.rebuild.Goals as goal
 
 pub merged-built-requires-clause-schema : goal.merged-built-requires-clause-schema
@@ -41,3 +46,14 @@ pub stage-requires-clause-can : goal.stage-requires-clause-can
 stage-requires-clause-can g c =
     ∥∥₁_elim c.config.ensures.schema (can_spell_prop c.in-Ok.split.facts)
     (λ s. files_can c.config.result.now.schema c.args.dropped.now c.as_slice.result.now c.in-Ok.split s.few c.in-Ok.ensures.exact c.facts_fit.ensures.size c.facts_fit.ensures.times)
+
+pub returns-in-Ok-clause-corrupt : goal.returns-in-Ok-clause-corrupt
+returns-in-Ok-clause-corrupt g c = λ key e. inl (stage_gives (λ (call : Answered). g.G.Gate.Answers c.args.gate.now call c.stage.new.gate) c.args.work.plan c.in-Ok.split c.stage.result c.stage.new.place c.stage.ensures.ends key e)
+
+pub returns-in-Err-clause-corrupt : goal.returns-in-Err-clause-corrupt
+returns-in-Err-clause-corrupt g c =
+    subst (λ (k : IndexConfig). (key : List ℕ) → IsCorrupt c.unmerged.result key → LeftFault (λ (call : Answered). g.G.Gate.Answers c.args.gate.now call c.args.gate.now) k c.args.work key) c.config.ensures.value
+    (λ key e. left_corrupt c.config.result.now c.args.work (λ (call : Answered). g.G.Gate.Answers c.args.gate.now call c.args.gate.now) c.args.dropped.now c.in-Err.error
+    (subst (λ (fs : List (List ℕ)). HasNoSplit c.config.result.now.schema fs c.in-Err.error) c.as_slice.ensures c.in-Err.ensures.cause)
+    (λ lists are. c.in-Err.ensures.only lists (subst (λ (fs : List (List ℕ)). AreSplits c.config.result.now.schema fs lists) (sym c.as_slice.ensures) are))
+    c.unmerged.result (c.unmerged.ensures ∙ ap (λ rows. unmerged_said rows c.in-Err.error) c.as_slice-in-Err.ensures) key e)

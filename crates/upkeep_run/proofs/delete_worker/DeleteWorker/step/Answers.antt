@@ -9,6 +9,7 @@ use Rattle.upkeep_run.specs.declared.work.Place.{Place as HeldPlace}
 use Rattle.upkeep_run.specs.declared.work.Place.TheVariants as places
 use Rattle.upkeep_run.proofs.Ended.{delete_ends}
 use Rattle.upkeep_run.proofs.Holding.{idle_owns, may_replace}
+use Rattle.upkeep_run.proofs.Corrupted.{corrupt_delete, plan_gives, replace_gives, upload_gives}
 use Rattle.upkeep_run.proofs.delete_worker.DeleteWorker.step.Goals as goal
 
 pub returns-in-Idle-clause-step : goal.returns-in-Idle-clause-step
@@ -71,3 +72,22 @@ work_on-requires-clause-begun g c = λ log begins.
     let given = c.requires.begun log begins in
     let at = subst (λ k. PlaceStands Deleting log given.1 k given.0) (sym c.replace.ensures.value ∙ c.in-Fetching.is) given.2 in
     (given.1, at.0, at.2, at.3, at.4, given.3)
+
+pub returns-in-Idle-clause-corrupt : goal.returns-in-Idle-clause-corrupt
+returns-in-Idle-clause-corrupt g c =
+    corrupt_delete g.G.Gate.configured g.G.Gate.tasks_kept g.G.Gate.Answers c.args.self.now.place c.plan.result c.args.gate.now c.plan.new.gate places.Idle (sym c.replace.ensures.value ∙ c.in-Idle.is)
+    (plan_gives Deleting (λ (call : Answered). g.G.Gate.Answers c.args.gate.now call c.plan.new.gate) c.plan.result c.plan.new.place c.plan.ensures.ends)
+
+pub returns-in-Fetching-clause-corrupt : goal.returns-in-Fetching-clause-corrupt
+returns-in-Fetching-clause-corrupt g c =
+    corrupt_delete g.G.Gate.configured g.G.Gate.tasks_kept g.G.Gate.Answers c.args.self.now.place c.work_on.result c.args.gate.now c.work_on.new.gate (places.Fetching c.in-Fetching.work) (sym c.replace.ensures.value ∙ c.in-Fetching.is) c.work_on.ensures.corrupt
+
+pub returns-in-Staged-clause-corrupt : goal.returns-in-Staged-clause-corrupt
+returns-in-Staged-clause-corrupt g c =
+    corrupt_delete g.G.Gate.configured g.G.Gate.tasks_kept g.G.Gate.Answers c.args.self.now.place c.upload.result c.args.gate.now c.upload.new.gate (places.Staged c.in-Staged.plan c.in-Staged.staged c.in-Staged.bytes) (sym c.replace.ensures.value ∙ c.in-Staged.is)
+    (upload_gives (λ (call : Answered). g.G.Gate.Answers c.args.gate.now call c.upload.new.gate) c.in-Staged.plan c.in-Staged.staged.number c.in-Staged.bytes (g.G.Gate.told c.args.gate.now) (g.G.Gate.told c.upload.new.gate) c.upload.result c.upload.new.place c.upload.ensures.ends)
+
+pub returns-in-Uploaded-clause-corrupt : goal.returns-in-Uploaded-clause-corrupt
+returns-in-Uploaded-clause-corrupt g c =
+    corrupt_delete g.G.Gate.configured g.G.Gate.tasks_kept g.G.Gate.Answers c.args.self.now.place c.replace_rows.result c.args.gate.now c.replace_rows.new.gate (places.Uploaded c.in-Uploaded.plan c.in-Uploaded.uploaded) (sym c.replace.ensures.value ∙ c.in-Uploaded.is)
+    (replace_gives c.in-Uploaded.plan.upto (λ (call : Answered). g.G.Gate.Answers c.args.gate.now call c.replace_rows.new.gate) c.in-Uploaded.plan c.in-Uploaded.uploaded.number c.replace_rows.result places.Idle c.replace_rows.ensures.ends)

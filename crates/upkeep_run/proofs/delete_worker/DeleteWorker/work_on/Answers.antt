@@ -5,6 +5,7 @@ use Rattle.index_world.specs.Answering.{Answered}
 use Rattle.split_merge.proofs.KeptLemmas.{drop_at}
 use Rattle.upkeep_run.specs.Ending.{Ends, EndsDeleteAt}
 use Rattle.upkeep_run.proofs.Done.{all_done, none_at}
+use Rattle.upkeep_run.specs.Corrupting.{CorruptDeleteAt}
 use Rattle.upkeep_run.proofs.delete_worker.DeleteWorker.work_on.Goals as goal
 
 pub returns-then-work-len-clause-ends : goal.returns-then-work-len-clause-ends
@@ -25,3 +26,13 @@ pub close-requires-clause-begun : goal.close-requires-clause-begun
 close-requires-clause-begun g c = λ log begins.
     let given = c.requires.begun log begins in
     (given.0, given.1, given.2, given.3, given.4, all_done c.args.work given.1 given.2 (omega (arith, c.if-work-len.false, c.len.ensures)), given.5)
+
+pub returns-then-work-len-clause-corrupt : goal.returns-then-work-len-clause-corrupt
+returns-then-work-len-clause-corrupt g c =
+    let at = drop_at c.args.work.plan.rows c.args.work.next (omega (arith, c.if-work-len.true, c.len.ensures)) in
+    subst (λ (o : Option PlanRow). CorruptDeleteAt o (λ (call : Answered). g.G.Gate.Answers c.args.gate.now call c.fetch.new.gate) (g.G.Gate.configured c.args.gate.now) (g.G.Gate.tasks_kept c.args.gate.now) c.args.work c.fetch.result) (sym at.1) (c.fetch.ensures.corrupt at.0 at.1)
+
+pub returns-clause-corrupt : goal.returns-clause-corrupt
+returns-clause-corrupt g c =
+    subst (λ (o : Option PlanRow). CorruptDeleteAt o (λ (call : Answered). g.G.Gate.Answers c.args.gate.now call c.close.new.gate) (g.G.Gate.configured c.args.gate.now) (g.G.Gate.tasks_kept c.args.gate.now) c.args.work c.close.result)
+    (sym (none_at c.args.work.plan.rows c.args.work.next (omega (arith, c.if-work-len.false, c.len.ensures)))) c.close.ensures.corrupt
