@@ -26,6 +26,7 @@ use split_build::{
 use split_bundle::{SplitError, SplitView};
 use split_states::RowFacts;
 use std::alloc::{AllocError, Global};
+use std::mem;
 
 // What a document weighs beside its bytes: one for the place of its partition, and 256.
 const WEIGHT_BESIDE: u64 = 257;
@@ -87,7 +88,9 @@ fn file_parts(
     ensures terms { IfOk result (λ f. f.terms ≡ terms) }
     ensures sections { (documents : List Placed) → AreToWrite schema.now documents log columns.items → IfOk result (AreSectionsOf schema.now documents) }
 {
-    let columns = write_columns(alloc, schema, &columns)?;
+    let section = write_columns(alloc, schema, &columns)?;
+    // The values are let go before the documents are copied.
+    mem::drop(columns);
     let partitions = log.partitions(alloc)?;
     let mut documents = Vec::new(alloc);
     log.put_section(alloc, &partitions, &mut documents)?;
@@ -95,7 +98,7 @@ fn file_parts(
         docs: count,
         documents,
         terms,
-        columns,
+        columns: section,
         partitions,
     })
 }

@@ -19,5 +19,5 @@ returns-clause-sections c = λ ds h. record {
   documents_are =
       c.in_ok-put_section.ensures ds h.bodies ∙ ap (λ (l : List ℕ). l ++ documents_section c.deref-2.result.now ds) c.new-documents.ensures.items
       ∙ ap (λ (l : List (List ℕ)). documents_section l ds) c.deref-2.ensures.value;
-  columns = c.in_ok-columns.ensures ds h.are_documents (subst (λ (l : List ColumnLog). HasColumns ds (fast_fields c.args.schema.now) l) (sym c.deref.ensures.value) h.columns_are);
+  columns = c.in_ok-section.ensures ds h.are_documents (subst (λ (l : List ColumnLog). HasColumns ds (fast_fields c.args.schema.now) l) (sym c.deref.ensures.value) h.columns_are);
 }
