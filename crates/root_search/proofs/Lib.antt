@@ -14,6 +14,7 @@ pub mod Fetches
 pub mod CallsMade
 pub mod RowReads
 pub mod Planning
+pub mod ReadTexts
 pub mod Leaving
 pub mod Unread
 pub mod Tails
@@ -32,3 +33,6 @@ pub mod Pruned
 pub mod PlannedRows
 pub mod Found
 pub mod Steps
+pub mod TaskCalls
+pub mod TaskReads
+pub mod DeleteLaws

@@ -1,13 +1,17 @@
 -- A searcher goes on to stand for its client, and what its files hold is what is visible.
-use Rattle.std.proofs.Common.{◌≡◌, ℕ, ◌+◌, ◌≤◌, Contains, List, map, flat_map, length, take, sym, ap, ◌∙◌, subst, arith, Option, Some, IsPermutation}
+use Rattle.std.proofs.Common.{◌≡◌, ℕ, ◌+◌, ◌≤◌, ◌++◌, Contains, List, map, flat_map, length, take, sym, ap, ◌∙◌, subst, arith, Option, Some, IsPermutation}
 use Rattle.std.specs.List.{AllByRecursion, AllZip}
+use Rattle.std.specs.Prelude.{fold}
 use Rattle.std.proofs.lemmas.List.{take-append-le, take_all, length-append}
+use Rattle.std.proofs.lemmas.List.Sums.{fold-append}
 use Rattle.meta_journal.specs.declared.entry.Entry.{Entry}
 use Rattle.meta_store.specs.Contents.{published_rows}
-use Rattle.meta_store.specs.History.{history}
+use Rattle.meta_store.specs.History.{History, history}
+use Rattle.meta_store.specs.History.History.{Start, ◌▸◌}
 use Rattle.meta_store.specs.Ledgers.{ledger}
 use Rattle.meta_store.specs.Planning.{planned_row, searched}
 use Rattle.meta_store.specs.Rows.{rows}
+use Rattle.meta_store.specs.State.{Legal}
 use Rattle.index_config.specs.declared.config.IndexConfig.{IndexConfig}
 use Rattle.index_world.specs.Config.{reads}
 use Rattle.index_world.specs.Configuration.{configuration, config_or}
@@ -23,7 +27,7 @@ use Rattle.split_bundle.specs.declared.placed.Placed.{Placed}
 use Rattle.leaf_search.specs.Answers.{IsAsked}
 use Rattle.root_search.specs.RowFacts.{HasFactsOf}
 use Rattle.search_api.specs.Resolved.{Search}
-use Rattle.index_world.proofs.Configured.{configured-take, configured-unread}
+use Rattle.index_world.proofs.Configured.{configured-take, configured-unread, legal_front}
 use Rattle.index_world.proofs.InCore.{planned_goes, shown_goes}
 use Rattle.index_world.proofs.StoreChanges.{All-each}
 use Rattle.root_search.specs.SplitParts.{HasNeeded, IsFooterIn}
@@ -213,3 +217,23 @@ configured_after core after config i g = g.keeps.configured config i
 
 pub config_after : (core after : Core) (log : Log) (config : IndexConfig) → IsSoundCore after log → IsConfigured config core → GoesFor Nobody core after → config_in after ≡ config
 config_after core after log config s i g = config_is after log config s (configured_after core after config i g)
+
+-- ---- before a call
+
+-- what comes behind a history
+history_more : (entries more : List Entry) → history (entries ++ more) ≡ fold ◌▸◌ (history entries) more
+history_more entries more = fold-append ◌▸◌ Start entries more
+
+legal_before : (entries all more : List Entry) → all ≡ entries ++ more → Legal reads (history all) → Legal reads (history entries)
+legal_before entries all more grown legal = legal_front (history entries) more (subst (Legal reads) (ap history grown ∙ history_more entries more) legal)
+
+configured_more : (entries all more : List Entry) (config : IndexConfig) → all ≡ entries ++ more → Legal reads (history all) → configuration entries ≡ Some config → configuration all ≡ Some config
+configured_more entries all more config grown legal is =
+    let front : take (length entries) all ≡ entries = ap (take (length entries)) grown ∙ (take-append-le (length entries) entries more (omega arith) ∙ take_all (length entries) entries (omega arith)) in
+    configured-take (length entries) all legal config (ap configuration front ∙ is)
+
+-- what others did before a call left the configuration
+pub config_before : (core mid after : Core) (log : Log) (config : IndexConfig) → IsSoundCore core log → IsSoundCore after log → IsConfigured config core → (first : List Entry) → mid.history ≡ core.history ++ first
+    → (more : List Entry) → after.history ≡ mid.history ++ more → config_in mid ≡ config
+config_before core mid after log config s t i first grown more later =
+    ap config_or (configured_more core.history mid.history first config grown (legal_before mid.history after.history more later (world_legal t.kept after log t.world)) (configured_is core log config s i))

@@ -1,22 +1,27 @@
 -- A step of a client, by what a call of a gate did and what is answered.
-use Rattle.std.proofs.Common.{◌≡◌, inr, ℕ, ◌<◌, Bool, true, false, List, [], ◌∷◌, length, map, refl, sym, ap, ap₂, ◌∙◌, subst, arith, Some, None, Result, Ok, Err}
+use Rattle.std.proofs.Common.{◌≡◌, inr, ℕ, ◌<◌, Bool, true, false, List, [], ◌∷◌, length, map, refl, sym, ap, ◌∙◌, subst, arith, Option, Some, None, Result, Ok, Err}
 use Rattle.std.specs.Prelude.{⊤, IsErr}
 use Rattle.std.specs.declared.alloc.AllocError.{AllocError}
 use Rattle.index_config.specs.declared.config.IndexConfig.{IndexConfig}
 use Rattle.source_log.specs.Log.{Log}
-use Rattle.index_world.specs.Calls.{Fate, Grace, Gives, gives, Trouble, faulted, no_memory, asked_and_looked, fetched, calm_fate}
-use Rattle.index_world.specs.CallsMade.{CallMade, IsRecorded, of_plan}
+use Rattle.index_world.specs.Calls.{Fate, Grace, Gives, gives, Trouble, faulted, no_memory, Unmade, troubled, asked_and_looked, fetched, calm_fate}
+use Rattle.index_world.specs.Calls as calls
+use Rattle.index_world.specs.CallsMade.{CallMade, IsRecorded, of_plan, of_task}
 use Rattle.index_world.specs.Core.{Core}
-use Rattle.index_world.specs.Gate.{NoneBetween, Says, IsTrouble}
+use Rattle.index_world.specs.Gate.{NoneBetween, Says, IsReceipt, IsTrouble, IsUnmade, task_call}
+use Rattle.index_world.specs.declared.tokens.DeleteAsk.{DeleteAsk}
+use Rattle.index_world.specs.declared.tokens.Receipt.{Receipt}
 use Rattle.meta_store.specs.declared.planning.Choice.{Choice}
 use Rattle.meta_store.specs.declared.planning.Choice.TheVariants.{Look}
 use Rattle.index_world.specs.declared.world_error.WorldError.{WorldError}
-use Rattle.search_api.specs.Resolved.{Search}
+use Rattle.search_api.specs.Resolved.{Asked, IsDelete, IsSearch, Search}
 use Rattle.search_api.specs.Unanswered.{WantsMemory}
 use Rattle.search_api.specs.declared.reply.Refusal.{Refusal}
+use Rattle.search_api.specs.declared.reply.Said.TheVariants.{Refused}
+use Rattle.search_api.specs.declared.resolved.Deletion.{Deletion}
 use Rattle.search_api.specs.declared.unanswered.Unanswered.{Unanswered}
 use Rattle.search_api.specs.declared.unanswered.Unanswered.TheVariants as reasons
-use Rattle.root_search.specs.Requests.{asked_of}
+use Rattle.root_search.specs.Requests.{ask_of, asked_of}
 use Rattle.root_search.specs.Fetching.{FetchesAs}
 use Rattle.root_search.specs.declared.fetching.FetchError.{FetchError}
 use Rattle.root_search.specs.declared.fetching.FetchError.TheVariants.{Memory, World, Corrupt}
@@ -26,11 +31,13 @@ use Rattle.root_search.specs.declared.planned.Planned.{Planned as GivenPlan}
 use Rattle.root_search.specs.declared.searcher.Request.{Request as GivenRequest}
 use Rattle.root_search.specs.declared.searcher.Request.TheVariants as requests
 use Rattle.root_search.specs.declared.searcher.Searcher.{Searcher}
-use Rattle.root_search.specs.Searching.{IsRequest, SearcherStands, SearchesAs, IsAtWork, Ends, FaultEnds, searched_as}
-use Rattle.root_search.specs.Steps.{ArePassed, grace_in, Plan, Request, no_request, opened, planned, Client, Luck, Searched, Passage, config_in, without_memory, without_request, fetched_at, fetched_each, luck_of, next_at, next_step, request_at, step_at, step_client, step_request, plan_by, plan_given, fetch_by, fetch_given, or_short, trouble_replied, unless_fault, refused_over, reply_with, answer_of}
+use Rattle.root_search.specs.Searching.{IsRefusalOf, IsRequest, SearcherStands, SearchesAs, IsAtWork, Ends, FaultEnds, searched_as}
+use Rattle.root_search.specs.StepReads.{refusal_of}
+use Rattle.root_search.specs.Steps.{ArePassed, grace_in, Plan, Request, no_request, opened, planned, Client, Luck, Searched, Passage, config_in, without_memory, without_request, fetched_at, fetched_each, luck_of, next_at, next_step, request_at, step_at, step_client, step_request, delete_by, delete_given, opened_by, plan_by, plan_given, fetch_by, fetch_given, or_short, state_refusal, trouble_replied, unmade_replied, unless_fault, refused_over, reply_with, answer_of}
 use Rattle.root_search.specs.Goes.{GoesBy}
-use Rattle.root_search.specs.Recorded.{AreCallsOf, AreFetchesOf, AreRecorded}
-use Rattle.root_search.proofs.Recorded.{record_as}
+use Rattle.root_search.specs.Recorded.{AreCallsOf, AreFetchesOf, AreRecorded, IsFirstCall}
+use Rattle.index_world.specs.Taking.{IsWant}
+use Rattle.root_search.proofs.Recorded.{record_as, want_is}
 use Rattle.root_search.proofs.Fetches.{by_refl, some_passages}
 
 -- ---- the request of a searcher
@@ -78,6 +85,15 @@ plan_short answer asked client core e = ap (λ (r : Result ⊤ Trouble). (plan_b
     by (Err (reasons.Refused refusal)) = refl
     by (Err (reasons.Memory m)) = refl
 
+-- the core behind the task of a delete, which answers nothing without memory
+pub delete_core : (answer : Result ⊤ Unmade) (client : Client) (core : Core) → (delete_by answer client core).core ≡ core
+delete_core (Ok done) client core = refl
+delete_core (Err (calls.refused refusal)) client core = refl
+delete_core (Err (troubled trouble)) client core = trouble_core client.front trouble client core
+
+pub delete_short : (answer : Result ⊤ Unmade) (client : Client) (core : Core) → answer ≡ Err (troubled no_memory) → (delete_by answer client core).outcome ≡ None
+delete_short answer client core e = ap (λ (r : Result ⊤ Unmade). (delete_by r client core).outcome) e
+
 fetch_core : (answer : Result ⊤ Trouble) (plan : Plan) (number : ℕ) (more : List ℕ) (client : Client) (core : Core) → (fetch_by answer plan number more client core).core ≡ core
 fetch_core (Ok done) plan number more client core = refl
 fetch_core (Err trouble) plan number more client core = trouble_core plan.revision trouble client core
@@ -118,6 +134,43 @@ pub says_err : {A : Type 0} (holds : A → Core → Type 0) (error : WorldError)
 says_err holds error (Ok done) after s = absurd s
 says_err holds error (Err trouble) after s = (trouble, refl, s)
 
+pub added_ok : (receipt : Receipt) (answer : Result ⊤ Unmade) (after : Core) → Says IsUnmade IsReceipt (Ok receipt) answer after → (answer ≡ Ok tt) × IsReceipt receipt after
+added_ok receipt (Ok done) after s = (refl, s)
+added_ok receipt (Err unmade) after s = absurd s
+
+pub added_err : (error : WorldError) (answer : Result ⊤ Unmade) (after : Core) → Says IsUnmade IsReceipt (Err error) answer after →
+    (unmade : Unmade) × (answer ≡ Err unmade) × IsUnmade error unmade
+added_err error (Ok done) after s = absurd s
+added_err error (Err unmade) after s = (unmade, refl, s)
+
+-- ---- why no task is added
+
+same_refusal : (o : Option Refusal) (one other : Refusal) → o ≡ Some one → o ≡ Some other → one ≡ other
+same_refusal o one other e f = cc
+
+never_none : (o : Option Refusal) (refusal : Refusal) → o ≡ Some refusal → o ≡ None → ⊥
+never_none o refusal e f = absurd (cc)
+
+-- the error's refusal is replied
+pub unmade_refused : (error : WorldError) (refusal : Refusal) (unmade : Unmade) (revision : ℕ) (client : Client) (core : Core) → IsUnmade error unmade → refusal_of error ≡ Some refusal
+    → ((trouble : Trouble) → IsTrouble error trouble → IsRefusalOf (Ok refusal) trouble) → unmade_replied revision unmade client core ≡ reply_with revision (Refused refusal) client core
+unmade_refused error refusal (calls.refused state) revision client core is exact h =
+    ap (λ (r : Refusal). reply_with revision (Refused r) client core) (same_refusal (refusal_of error) (state_refusal state) refusal (ap refusal_of is) exact)
+unmade_refused error refusal (troubled trouble) revision client core is exact h =
+    let r = h trouble is in
+    ap (λ (t : Trouble). trouble_replied revision t client core) r.1 ∙ ap (λ (x : Refusal). reply_with revision (Refused x) client core) (sym r.2)
+
+-- or memory was wanting
+pub unmade_short : (error : WorldError) (unmade : Unmade) (revision : ℕ) (client : Client) (core : Core) → IsUnmade error unmade → refusal_of error ≡ None
+    → ((trouble : Trouble) → IsTrouble error trouble → trouble ≡ no_memory) → unmade_replied revision unmade client core ≡ without_memory client core
+unmade_short error (calls.refused state) revision client core is exact h = absurd (never_none (refusal_of error) (state_refusal state) (ap refusal_of is) exact)
+unmade_short error (troubled trouble) revision client core is exact h = ap (λ (t : Trouble). trouble_replied revision t client core) (h trouble is)
+
+-- where it is, the call found none
+pub unmade_want : (error : WorldError) (unmade : Unmade) → IsWant error → IsUnmade error unmade → unmade ≡ troubled no_memory
+unmade_want error (calls.refused state) want is = absurd (subst IsWant is want)
+unmade_want error (troubled trouble) want is = ap troubled (want_is error trouble want is)
+
 -- ---- what is planned
 
 pub planned_is : (asked : Request) (one other : Plan) → asked ≡ planned one → asked ≡ planned other → one ≡ other
@@ -125,8 +178,25 @@ planned_is asked one other e f = cc
 
 -- ---- what was read of a text
 
-pub refused_is : (asked : Result Search Unanswered) (reason : Unanswered) (refusal : Refusal) → reason ≡ reasons.Refused refusal → (¬ WantsMemory reason → asked ≡ Err reason) → asked ≡ Err (reasons.Refused refusal)
+pub refused_is : (asked : Result Asked Unanswered) (reason : Unanswered) (refusal : Refusal) → reason ≡ reasons.Refused refusal → (¬ WantsMemory reason → asked ≡ Err reason) → asked ≡ Err (reasons.Refused refusal)
 refused_is asked reason refusal e h = subst (λ (r : Unanswered). asked ≡ Err r) e (h (λ w. subst WantsMemory e w))
+
+-- what is no delete is planned
+abbrev pub as_asked : Result Search Unanswered → Result Asked Unanswered
+as_asked (Ok search) = Ok (IsSearch search)
+as_asked (Err reason) = Err reason
+
+opened_plans : (o : Result Search Unanswered) (fate : Fate) (client : Client) (core : Core) → opened_by (as_asked o) fate client core ≡ plan_given o client (asked_and_looked fate core)
+opened_plans (Ok search) fate client core = refl
+opened_plans (Err reason) fate client core = refl
+
+first_plan : (o : Result Search Unanswered) (choice : Choice) (found after : Core) (outcome : Option SearchStep) (made : List CallMade) → IsRecorded (of_plan choice) found after (outcome ≡ None) made → IsFirstCall (as_asked o) found after outcome made
+first_plan (Ok search) choice found after outcome made once = (choice, once)
+first_plan (Err reason) choice found after outcome made once = (choice, once)
+
+-- no memory before the call
+abbrev unasked_fate : Fate
+unasked_fate = record calm_fate { unasked = true }
 
 -- ---- steps
 
@@ -154,21 +224,50 @@ module _ {W : Type 0} (Stands : W → Core → Log → Type 0) (Between : Core �
       }
 
   pub planned_as : (text : List ℕ) (config : IndexConfig) (mid : Core) (fate : Fate) (answer a : Result ⊤ Trouble) (o : Result Search Unanswered) (after : Core) → Between core mid → asked_and_looked fate mid ≡ gives answer after → GoesBy Between core after →
-      Stands gate after log → client.request ≡ opened text → config_in after ≡ config → asked_of config text ≡ o → answer ≡ a → Ends result new (plan_by a o client after) log →
+      Stands gate after log → client.request ≡ opened text → config_in mid ≡ config → asked_of config text ≡ as_asked o → answer ≡ a → Ends result new (plan_by a o client after) log →
       (choice : Choice) (short : Type 0) (made : List CallMade) → (short → a ≡ Err no_memory) → Adds old made gate → IsRecorded (of_plan choice) mid after short made → SearchesAs Stands Between Adds old result new gate client core log
   planned_as text config mid fate answer a o after passed did on stands asked is word said ends choice short made none own once =
       let passage : Passage = record { core = mid; fate = fate } in
+      let read : asked_of (config_in mid) text ≡ as_asked o = ap (λ (c : IndexConfig). asked_of c text) is ∙ word in
       step_as passage [] false after (plan_by a o client after) (passed, tt)
-      (ap (λ r. request_at r passage [] log client) asked ∙ (ap (plan_given text client) did ∙ ap₂ (λ x y. plan_by x y client after) said (ap (λ (c : IndexConfig). asked_of c text) is ∙ word)))
+      (ap (λ r. request_at r passage [] log client) asked ∙ (ap (λ (q : Result Asked Unanswered). opened_by q fate client mid) read
+      ∙ (opened_plans o fate client mid ∙ (ap (plan_given o client) did ∙ ap (λ (x : Result ⊤ Trouble). plan_by x o client after) said))))
       (plan_core a o client after) on stands ends made own
       (subst (λ r. AreCallsOf r passage [] after (plan_by a o client after).outcome made) (sym asked)
-      (choice, record_as (of_plan choice) mid after after short ((plan_by a o client after).outcome ≡ None) made refl (λ is_short. plan_short a o client after (none is_short)) once))
+      (subst (λ (q : Result Asked Unanswered). IsFirstCall q mid after (plan_by a o client after).outcome made) (sym read)
+      (first_plan o choice mid after (plan_by a o client after).outcome made
+      (record_as (of_plan choice) mid after after short ((plan_by a o client after).outcome ≡ None) made refl (λ is_short. plan_short a o client after (none is_short)) once))))
+
+  pub deleted_as : (text : List ℕ) (config : IndexConfig) (deletion : Deletion) (ask : DeleteAsk) (mid : Core) (fate : Fate) (answer a : Result ⊤ Unmade) (after : Core) → Between core mid → task_call ask fate mid ≡ gives answer after → GoesBy Between core after →
+      Stands gate after log → client.request ≡ opened text → config_in mid ≡ config → asked_of config text ≡ Ok (IsDelete deletion) → ask ≡ ask_of deletion → answer ≡ a → Ends result new (delete_by a client after) log →
+      (short : Type 0) (made : List CallMade) → (short → a ≡ Err (troubled no_memory)) → Adds old made gate → IsRecorded (of_task ask) mid after short made → SearchesAs Stands Between Adds old result new gate client core log
+  deleted_as text config deletion ask mid fate answer a after passed did on stands asked is word same said ends short made none own once =
+      let passage : Passage = record { core = mid; fate = fate } in
+      let read : asked_of (config_in mid) text ≡ Ok (IsDelete deletion) = ap (λ (c : IndexConfig). asked_of c text) is ∙ word in
+      step_as passage [] false after (delete_by a client after) (passed, tt)
+      (ap (λ r. request_at r passage [] log client) asked ∙ (ap (λ (q : Result Asked Unanswered). opened_by q fate client mid) read
+      ∙ (ap (λ (k : DeleteAsk). delete_given client (task_call k fate mid)) (sym same) ∙ (ap (delete_given client) did ∙ ap (λ (x : Result ⊤ Unmade). delete_by x client after) said))))
+      (delete_core a client after) on stands ends made own
+      (subst (λ r. AreCallsOf r passage [] after (delete_by a client after).outcome made) (sym asked)
+      (subst (λ (q : Result Asked Unanswered). IsFirstCall q mid after (delete_by a client after).outcome made) (sym read)
+      (subst (λ (k : DeleteAsk). IsRecorded (of_task k) mid after ((delete_by a client after).outcome ≡ None) made) same
+      (record_as (of_task ask) mid after after short ((delete_by a client after).outcome ≡ None) made refl (λ is_short. delete_short a client after (none is_short)) once))))
 
   -- where there was no memory before the call
   pub unasked_as : (text : List ℕ) → Between core core → Adds old [] gate → Stands gate core log → client.request ≡ opened text → IsErr result → IsAtWork new client core → SearchesAs Stands Between Adds old result new gate client core log
-  unasked_as text between own stands asked short w =
-      planned_as text (config_in core) core (record calm_fate { unasked = true }) (Err no_memory) (Err no_memory) (asked_of (config_in core) text) core between refl (by_refl Between core) stands asked refl refl refl
-      (ends_unasked result (asked_of (config_in core) text) new client core log short w) Look ⊤ [] (λ done. refl) own (inr (refl, refl, tt))
+  unasked_as text between own stands asked short w = by (asked_of (config_in core) text) refl
+    where
+      plans : (o : Result Search Unanswered) → asked_of (config_in core) text ≡ as_asked o → SearchesAs Stands Between Adds old result new gate client core log
+      plans o word =
+          planned_as text (config_in core) core unasked_fate (Err no_memory) (Err no_memory) o core between refl (by_refl Between core) stands asked refl word refl
+          (ends_unasked result o new client core log short w) Look ⊤ [] (λ done. refl) own (inr (refl, refl, tt))
+
+      by : (q : Result Asked Unanswered) → asked_of (config_in core) text ≡ q → SearchesAs Stands Between Adds old result new gate client core log
+      by (Ok (IsSearch search)) word = plans (Ok search) word
+      by (Ok (IsDelete deletion)) word =
+          deleted_as text (config_in core) deletion (ask_of deletion) core unasked_fate (Err (troubled no_memory)) (Err (troubled no_memory)) core between refl (by_refl Between core) stands asked refl word refl refl
+          (ends_short result new client core log short w) ⊤ [] (λ done. refl) own (inr (refl, refl, tt))
+      by (Err reason) word = plans (Err reason) word
 
   pub fetched_as : (plan : Plan) (number : ℕ) (left : List ℕ) (short : Bool) (passages : List Passage) (answer a : Result ⊤ Trouble) (after : Core) → 0 < length passages → ArePassed plan.grace Between core passages → fetched_at plan.grace core passages ≡ gives answer after → GoesBy Between core after →
       Stands gate after log → client.request ≡ planned plan → plan.unfetched ≡ number ∷ left → answer ≡ a → Ends result new (or_short short client (fetch_by a plan number left client after)) log →
@@ -252,5 +351,5 @@ step_alone passage more short log client core p = ap (or_short short client) (by
 
     by : (request : Request) → ArePassed (grace_in request) NoneBetween core (passage ∷ more) → step_request request luck log client core ≡ request_at request passage more log client
     by no_request q = ap (λ (c : Core). searched_as (Some said.Idle) client c) (sym p.0)
-    by (opened text) q = ap (λ (c : Core). plan_given text client (asked_and_looked passage.fate c)) (sym p.0)
+    by (opened text) q = ap (λ (c : Core). opened_by (asked_of (config_in c) text) passage.fate client c) (sym p.0)
     by (planned plan) q = next plan plan.unfetched q

@@ -9,6 +9,7 @@ pub mod Leaves
 pub mod SplitParts
 pub mod PartAnswers
 pub mod ReadSearches
+pub mod Deletes
 pub mod Steps
 pub mod Goes
 pub mod Recorded

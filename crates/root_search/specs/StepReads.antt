@@ -29,6 +29,7 @@ use Rattle.root_search.specs.Fetching.{IsFileAt}
 use Rattle.root_search.specs.Footers.{entries}
 use Rattle.root_search.specs.PartAnswers.{IsSaidOver}
 use Rattle.root_search.specs.SplitParts.{IsKnown}
+use Rattle.root_search.specs.Steps.{state_refusal}
 use Rattle.root_search.specs.declared.fetching.FetchError.{FetchError}
 use Rattle.root_search.specs.declared.fetching.FetchError.TheVariants.{Memory, World, Corrupt}
 use Rattle.root_search.specs.declared.footers.Footers.{Footers}
@@ -42,10 +43,10 @@ use Rattle.root_search.specs.declared.split_parts.SplitPart.{SplitPart}
 
 -- ---- refusals
 
--- What is replied where a call of the world answered an error: it as it is, or that there is no room; nothing without memory.
+-- What is replied where a call of the world answered an error: it as it is, or that there is no room, for tasks or at all; nothing without memory.
 abbrev pub refusal_of : WorldError → Option Refusal
 refusal_of (errors.Memory e) = None
-refusal_of (errors.Refused refusal) = Some refusals.Full
+refusal_of (errors.Refused refusal) = Some (state_refusal refusal)
 refusal_of (errors.StoreFault before after) = Some (refusals.StoreFault before after)
 refusal_of (errors.Missing key) = Some (refusals.Missing key)
 refusal_of (errors.Corrupt key) = Some (refusals.Corrupt key)

@@ -1,24 +1,27 @@
--- What a client holds, and one step of its search, given the fate of its calls.
+-- What a client holds, and one step of its request, given the fate of its calls.
 use Rattle.std.specs.Prelude.{ℕ, ◌+◌, Bool, true, false, List, [], ◌∷◌, length, map, take, Option, Some, None, Result, Ok, Err, ⊤, decimal, codes}
 use Rattle.index_config.specs.declared.config.IndexConfig.{IndexConfig}
-use Rattle.meta_store.specs.History.{History, history}
+use Rattle.meta_store.specs.History.{History, history, last_opstamp}
 use Rattle.meta_store.specs.Planning.{searched}
 use Rattle.meta_store.specs.Rows.{rows}
+use Rattle.meta_store.specs.declared.refusal.Refusal.{Refusal as StateRefusal}
+use Rattle.meta_store.specs.declared.refusal.Refusal.TheVariants as states
 use Rattle.search_api.specs.Replies.{reply_text}
-use Rattle.search_api.specs.Resolved.{Search}
+use Rattle.search_api.specs.Resolved.{Asked, IsDelete, IsSearch, Search}
 use Rattle.search_api.specs.declared.reply.Refusal.{Refusal}
 use Rattle.search_api.specs.declared.reply.Refusal.TheVariants as refusals
 use Rattle.search_api.specs.declared.reply.Said.{Said}
-use Rattle.search_api.specs.declared.reply.Said.TheVariants.{Refused}
+use Rattle.search_api.specs.declared.reply.Said.TheVariants.{Deleted, Refused}
 use Rattle.search_api.specs.declared.unanswered.Unanswered.{Unanswered}
 use Rattle.search_api.specs.declared.unanswered.Unanswered.TheVariants as reasons
 use Rattle.source_log.specs.Log.{Log}
-use Rattle.index_world.specs.Calls.{Fate, Fault, store_fault, is_foreign, is_full, is_expired, Grace, Trouble, faulted, no_memory, Gives, gives, asked_and_looked, fetched}
+use Rattle.index_world.specs.Calls.{Fate, Fault, store_fault, is_foreign, is_full, is_expired, Grace, Trouble, faulted, no_memory, Unmade, refused, troubled, Gives, gives, asked_and_looked, fetched}
 use Rattle.index_world.specs.Configuration.{configuration, config_or}
 use Rattle.index_world.specs.Core.{Core}
+use Rattle.index_world.specs.Gate.{task_call}
 use Rattle.index_world.specs.Seen.{visible_at}
 use Rattle.root_search.specs.Answer.{answer}
-use Rattle.root_search.specs.Requests.{asked_of}
+use Rattle.root_search.specs.Requests.{ask_of, asked_of}
 use Rattle.root_search.specs.declared.outcome.SearchStep.{SearchStep}
 use Rattle.root_search.specs.declared.outcome.SearchStep.TheVariants as steps
 
@@ -134,12 +137,51 @@ plan_by (Err trouble) (Ok search) client core = trouble_replied client.front tro
 plan_by (Err trouble) (Err (reasons.Refused refusal)) client core = refused_over client.front refusal trouble client core
 plan_by (Err trouble) (Err (reasons.Memory e)) client core = without_memory client core
 
--- the text is read under the configuration of the index
-abbrev pub plan_given : List ℕ → Client → Gives Trouble ⊤ → Searched
-plan_given text client given = plan_by given.answer (asked_of (config_in given.core) text) client given.core
+abbrev pub plan_given : Result Search Unanswered → Client → Gives Trouble ⊤ → Searched
+plan_given asked client given = plan_by given.answer asked client given.core
 
+-- ---- a delete
+
+-- What is replied where the state refuses the task of a delete: so many stand already. What it never answers to a text that was read is replied as
+-- an index that has no room.
+abbrev pub state_refusal : StateRefusal → Refusal
+state_refusal (states.TooManyTasks count) = refusals.TooManyTasks count
+state_refusal (states.MomentBack given greatest) = refusals.Full
+state_refusal states.NotCreated = refusals.Full
+state_refusal states.AlreadyCreated = refusals.Full
+state_refusal (states.BadConfig bad) = refusals.Full
+state_refusal (states.NotNext given next) = refusals.Full
+state_refusal (states.Delta stale) = refusals.Full
+state_refusal (states.State refusal) = refusals.Full
+state_refusal (states.BadTask bad) = refusals.Full
+state_refusal (states.UptoAhead upto last) = refusals.Full
+state_refusal (states.TooManyRows count) = refusals.Full
+state_refusal (states.TooManySpans count) = refusals.Full
+
+-- why no task is added
+abbrev pub unmade_replied : ℕ → Unmade → Client → Core → Searched
+unmade_replied revision (refused refusal) client core = reply_with revision (Refused (state_refusal refusal)) client core
+unmade_replied revision (troubled trouble) client core = trouble_replied revision trouble client core
+
+-- The task is the last entry, and the client has seen it from then on. Where there is none its front stays.
+abbrev pub delete_by : Result ⊤ Unmade → Client → Core → Searched
+delete_by (Ok done) client core = reply_with (length core.history) (Deleted (last_opstamp (history core.history))) client core
+delete_by (Err unmade) client core = unmade_replied client.front unmade client core
+
+abbrev pub delete_given : Client → Gives Unmade ⊤ → Searched
+delete_given client given = delete_by given.answer client given.core
+
+-- ---- the first step
+
+-- One call of the world: what is searched or refused is planned, and a delete's task is added.
+abbrev pub opened_by : Result Asked Unanswered → Fate → Client → Core → Searched
+opened_by (Ok (IsSearch search)) fate client core = plan_given (Ok search) client (asked_and_looked fate core)
+opened_by (Ok (IsDelete deletion)) fate client core = delete_given client (task_call (ask_of deletion) fate core)
+opened_by (Err reason) fate client core = plan_given (Err reason) client (asked_and_looked fate core)
+
+-- the text is read under the configuration of the index
 abbrev pub first_step : Luck → List ℕ → Client → Core → Searched
-first_step luck text client core = plan_given text client (asked_and_looked luck.world core)
+first_step luck text client core = opened_by (asked_of (config_in core) text) luck.world client core
 
 -- the answer over what was visible at the planned revision
 abbrev pub answer_of : Plan → Log → Core → Said
@@ -213,7 +255,7 @@ next_at passage more log plan (number ∷ left) client = fetch_given plan number
 
 abbrev pub request_at : Request → Passage → List Passage → Log → Client → Searched
 request_at no_request passage more log client = record { outcome = Some steps.Idle; client = client; core = passage.core }
-request_at (opened text) passage more log client = plan_given text client (asked_and_looked passage.fate passage.core)
+request_at (opened text) passage more log client = opened_by (asked_of (config_in passage.core) text) passage.fate client passage.core
 request_at (planned plan) passage more log client = next_at passage more log plan plan.unfetched client
 
 -- the step of a client whose calls have these passages

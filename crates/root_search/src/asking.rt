@@ -1,37 +1,28 @@
 //! What a client's text asks.
 
-ghost use Rattle.std.specs.Prelude.{◌≡◌, ◌^◌, ◌<◌, IfOk};
+ghost use Rattle.std.specs.Prelude.{◌≡◌, ◌^◌, ◌<◌, true, IfOk};
 ghost use Rattle.std.specs.Option.{ForSome};
 ghost use Rattle.doc_value.specs.Documents.{IsSchema};
-ghost use Rattle.query_ast.specs.Sought.{view};
+ghost use Rattle.doc_value.specs.declared.schema.Schema.{Schema};
+ghost use Rattle.meta_journal.specs.Spelling.{AreAll, IsText};
 ghost use Rattle.search_api.specs.Answerable.{CanAnswer, IsAnswerable};
 ghost use Rattle.search_api.specs.Resolved.{resolved, search_view, view as asked_view};
 ghost use Rattle.search_api.specs.Unanswered.{Shows};
-ghost use Rattle.search_api.specs.declared.reply.Refusal.TheVariants as refusals;
-ghost use Rattle.search_api.specs.declared.unanswered.Unanswered.TheVariants as reasons;
-ghost use Rattle.search_api.specs.Unanswered.{WantsMemory};
-ghost use Rattle.root_search.specs.ReadSearches.{Reads};
+ghost use Rattle.root_search.specs.Intervals.{have_steps};
+ghost use Rattle.root_search.specs.ReadSearches.{IsRead, IsReadDelete, Reads};
 ghost use Rattle.root_search.specs.Requests.{asked_of};
 
 use crate::leaf_asks::leaf_ask;
-use crate::reads::ReadSearch;
+use crate::reads::{ReadRequest, ReadSearch};
+use byte_fields::{Text as KeptText, Texts};
 use doc_value::Text;
 use index_config::IndexConfig;
+use index_world::DeleteAsk;
 use meta_store::Choice;
 use query_ast::copy_query;
-use search_api::{Refusal, Request, Resolved, SearchAsk, Unanswered, read_request, resolve};
+use search_api::{Deletion, Request, Resolved, SearchAsk, Unanswered, resolve};
 use std::alloc::{AllocError, Global};
 use std::mem;
-
-// The refusal of what isn't built.
-fn unbuilt(alloc: Global, name: &str) -> Unanswered
-    ensures { ¬ WantsMemory result → result ≡ reasons.Refused (refusals.UnknownKey name.now) }
-{
-    match Text::from_str(alloc, name) {
-        Ok(name) => Unanswered::Refused(Refusal::UnknownKey { name }),
-        Err(refused) => Unanswered::Memory(refused),
-    }
-}
 
 // What a request asks of the schema of an index, or its first refusal.
 fn resolve_in(
@@ -51,34 +42,24 @@ fn resolve_in(
     )
 }
 
-// The search that a text asks, or its first refusal.
-fn search_ask(alloc: Global, config: &IndexConfig, text: &[u8]) -> Result<SearchAsk, Unanswered>
+// The search or the delete that a text asks of an index, or its first refusal.
+fn asked_in(alloc: Global, config: &IndexConfig, text: &[u8]) -> Result<Resolved, Unanswered>
     requires { ∥ IsSchema config.now.schema ∥₁ }
-    ensures asked { Shows search_view (asked_of config.now text.now) result }
-    ensures answerable { IfOk result (λ ask. IsAnswerable config.now.schema (search_view ask)) }
+    ensures asked { Shows asked_view (asked_of config.now text.now) result }
+    ensures answerable { IfOk result (λ asked. CanAnswer config.now.schema (asked_view asked)) }
 {
-    let request = read_request(alloc, text)?;
+    let request = search_api::read_request(alloc, text)?;
     let resolved = resolve_in(alloc, config, &request);
     mem::drop(request);
-    match resolved? {
-        Resolved::Search(ask) => Ok(ask),
-        Resolved::Delete(deletion) => {
-            mem::drop(deletion);
-            Err(unbuilt(alloc, "delete"))
-        }
-    }
+    resolved
 }
 
-/// The search that a text asks of an index, or its first refusal.
-pub(crate) fn read_search(
-    alloc: Global,
-    config: &IndexConfig,
-    text: &[u8],
-) -> Result<ReadSearch, Unanswered>
-    requires { ∥ IsSchema config.now.schema ∥₁ }
-    ensures { Reads config.now.schema (asked_of config.now text.now) result }
+// The rows that are chosen for a search, and what it asks of each split.
+fn read_search(alloc: Global, search: SearchAsk) -> Result<ReadSearch, AllocError>
+    requires narrow { ForSome search.sort (λ sort. sort.field < 2 ^ 32) }
+    requires steps { have_steps search.aggs ≡ true }
+    ensures { (s : Schema) → IsAnswerable s (search_view search) → IfOk result (λ read. IsRead s (search_view search) read) }
 {
-    let search = search_ask(alloc, config, text)?;
     match copy_query(alloc, &search.query) {
         Ok(query) => {
             let times = search.times;
@@ -88,7 +69,66 @@ pub(crate) fn read_search(
         }
         Err(refused) => {
             mem::drop(search);
-            Err(Unanswered::Memory(refused))
+            Err(refused)
+        }
+    }
+}
+
+// A text as the journal keeps it.
+fn kept_text(alloc: Global, text: &Text) -> Result<KeptText, AllocError>
+    ensures same { IfOk result (λ kept. kept ≡ text.now) }
+    ensures can { IfOk result (λ kept. IsText kept) }
+{
+    let bytes = text.as_str().as_bytes();
+    let kept = KeptText::from_slice(alloc, bytes)?;
+    let _count = kept.len();
+    Ok(kept)
+}
+
+fn kept_texts(alloc: Global, texts: &[Text]) -> Result<Texts, AllocError>
+    ensures same { IfOk result (λ kept. kept ≡ texts.now) }
+    ensures can { IfOk result (λ kept. AreAll IsText kept) }
+{
+    let mut kept = Texts::vacant(alloc);
+    for text in texts {
+        kept.push(kept_text(alloc, text)?)?;
+    }
+    let _count = kept.len();
+    Ok(kept)
+}
+
+// The task of a delete, as the index is asked for it.
+fn read_delete(alloc: Global, deletion: &Deletion) -> Result<DeleteAsk, AllocError>
+    ensures { IfOk result (λ ask. IsReadDelete deletion.now ask) }
+{
+    let text = kept_text(alloc, &deletion.text)?;
+    let fields = kept_texts(alloc, deletion.fields.as_slice())?;
+    let times = deletion.times;
+    Ok(DeleteAsk {
+        text,
+        fields,
+        times,
+    })
+}
+
+/// The search or the delete that a text asks of an index, or its first refusal.
+pub(crate) fn read_request(
+    alloc: Global,
+    config: &IndexConfig,
+    text: &[u8],
+) -> Result<ReadRequest, Unanswered>
+    requires { ∥ IsSchema config.now.schema ∥₁ }
+    ensures { Reads config.now.schema (asked_of config.now text.now) result }
+{
+    let asked = asked_in(alloc, config, text)?;
+    match asked {
+        Resolved::Search(search) => {
+            let read = read_search(alloc, search)?;
+            Ok(ReadRequest::Search(read))
+        }
+        Resolved::Delete(deletion) => {
+            let ask = read_delete(alloc, &deletion)?;
+            Ok(ReadRequest::Delete(ask))
         }
     }
 }

@@ -1,9 +1,10 @@
-//! Searches of clients: what each of their steps answers.
+//! Searches and deletes of clients: what each of their steps answers.
 #![tactic(auto)]
 
 mod answer_laws;
 mod answers;
 mod asking;
+mod delete_laws;
 mod fetching;
 mod footers;
 mod joins;
@@ -20,6 +21,7 @@ mod splits_error;
 mod step_laws;
 
 pub use answer_laws::same_answers;
+pub use delete_laws::task_laws;
 pub use outcome::{SearchStep, print_outcome};
 pub use plan_laws::{planning_laws, ruling_laws};
 pub use searcher::{Busy, Searcher};

@@ -4,36 +4,37 @@ ghost use Rattle.std.specs.Prelude.{◌≡◌, ◌+◌, ◌-◌, ◌^◌, ◌<�
 ghost use Rattle.source_log.specs.Log.{Log, IsLog};
 ghost use Rattle.doc_value.specs.Documents.{IsSchema};
 ghost use Rattle.doc_value.specs.declared.schema.Schema.{Schema};
-ghost use Rattle.index_world.specs.Calls.{Trouble};
+ghost use Rattle.index_world.specs.Calls.{Trouble, Unmade};
 ghost use Rattle.index_world.specs.Core.{Core, IsConfigured};
-ghost use Rattle.index_world.specs.Gate.{IsTrouble};
+ghost use Rattle.index_world.specs.Gate.{CanAsk, IsTrouble, IsUnmade};
 ghost use Rattle.index_config.specs.declared.config.IndexConfig as configs;
 ghost use Rattle.meta_store.specs.declared.planning.PlanRow.{PlanRow};
-ghost use Rattle.search_api.specs.Resolved.{Search};
+ghost use Rattle.search_api.specs.Resolved.{IsDelete, IsSearch, Search};
+ghost use Rattle.search_api.specs.declared.resolved.Deletion.{Deletion};
 ghost use Rattle.search_api.specs.declared.unanswered.Unanswered.TheVariants as reasons;
 ghost use Rattle.root_search.specs.Drawing.{NeverFetched, StepDraws};
 ghost use Rattle.root_search.specs.ReadSearches.{IsRead};
-ghost use Rattle.root_search.specs.Requests.{asked_of};
+ghost use Rattle.root_search.specs.Requests.{ask_of, asked_of};
 ghost use Rattle.root_search.specs.Searching.{AreKnown, IsPlanned, SearcherStands, new_client, Submits, SearchesAs, IsAtWork, Ends, FaultEnds, IsRefusalOf};
 ghost use Rattle.root_search.specs.Leaving.{Restarts, StepLeaves, TakesText, Works};
-ghost use Rattle.root_search.specs.StepPlans.{PlansUnlessShort, StepPlans};
+ghost use Rattle.root_search.specs.StepPlans.{AddsUnlessShort, AnswersText, PlansUnlessShort, RepliesError, StepPlans};
 ghost use Rattle.root_search.specs.StepReads.{FetchesRow, IsFetchRefusal, Refuses, SaysOver, StepAnswers, StepReads, refusal_of};
 ghost use Rattle.root_search.specs.declared.searcher.Request.TheVariants as requests;
 ghost use Rattle.root_search.specs.Steps as steps;
-ghost use Rattle.root_search.specs.Steps.{opened, without_request, reply_with, trouble_replied, refused_over};
+ghost use Rattle.root_search.specs.Steps.{opened, without_request, reply_with, state_refusal, trouble_replied, refused_over, unmade_replied};
 
-use crate::asking::read_search;
+use crate::asking::read_request;
 use crate::fetching::{FetchError, fetch_part};
 use crate::footers::Footers;
 use crate::outcome::SearchStep;
 use crate::part_answers::answer_over;
 use crate::planned::Planned;
-use crate::reads::ReadSearch;
+use crate::reads::{ReadRequest, ReadSearch};
 use crate::split_parts::{SplitPart, SplitParts};
 use byte_fields::{Client, Text};
-use index_world::{Gate, WorldError};
+use index_world::{DeleteAsk, Gate, WorldError};
 use meta_journal::split_key;
-use meta_store::Choice;
+use meta_store::{Choice, Refusal as StateRefusal};
 use search_api::{Refusal, Reply, Said, Unanswered};
 use std::alloc::{AllocError, Global};
 use std::mem;
@@ -62,6 +63,22 @@ pub struct Searcher {
     request: Request,
 }
 
+// What a delete is answered where the state refuses its task: so many stand already. What a sound index never answers
+// is replied as an index that has no room.
+fn refused_by_state(refusal: StateRefusal) -> Refusal
+    ensures { result ≡ state_refusal refusal }
+{
+    match refusal {
+        StateRefusal::TooManyTasks { count } => Refusal::TooManyTasks {
+            count: count as u64,
+        },
+        other => {
+            mem::drop(other);
+            Refusal::Full
+        }
+    }
+}
+
 // What a request is answered where a call of the world gave nothing; want of memory is the step's own answer. What a
 // sound index never answers is replied as it is, or as an index that has no room.
 fn refused_by(error: WorldError) -> Result<Refusal, AllocError>
@@ -76,10 +93,7 @@ fn refused_by(error: WorldError) -> Result<Refusal, AllocError>
         WorldError::Corrupt { key } => Ok(Refusal::Corrupt { key }),
         WorldError::Foreign { key } => Ok(Refusal::Foreign { key }),
         WorldError::Full => Ok(Refusal::Full),
-        WorldError::Refused(refusal) => {
-            mem::drop(refusal);
-            Ok(Refusal::Full)
-        }
+        WorldError::Refused(refusal) => Ok(refused_by_state(refusal)),
         WorldError::NoIndex => Ok(Refusal::Full),
         WorldError::IndexExists => Ok(Refusal::Full),
         WorldError::BadConfig(fault) => {
@@ -185,8 +199,11 @@ impl Searcher {
     fn refuse(&mut self, revision: u64, error: WorldError) -> Result<SearchStep, AllocError>
         ensures step { (trouble : Trouble) (client : steps.Client) (core : Core) (log : Log) → IsTrouble error trouble → IsAtWork self.old client core →
             Ends result self.new (trouble_replied revision trouble client core) log }
+        ensures unmade { (unmade : Unmade) (client : steps.Client) (core : Core) (log : Log) → IsUnmade error unmade → IsAtWork self.old client core →
+            Ends result self.new (unmade_replied revision unmade client core) log }
         ensures replied { NeverFetched result }
         ensures refuses { Refuses revision (λ refusal. refusal_of error ≡ Some refusal) result }
+        ensures exact { RepliesError error revision result }
         ensures leaves { self.old.request ≡ requests.Vacant → Works self.old result self.new }
     {
         let refusal = refused_by(error)?;
@@ -239,7 +256,7 @@ impl Searcher {
         }
     }
 
-    // A request that asks no search is refused, over the revision of a plan of no rows.
+    // A text that asks nothing is refused, over the revision of a plan of no rows.
     fn refuse_asked<G: Gate>(
         &mut self,
         alloc: Global,
@@ -266,7 +283,7 @@ impl Searcher {
         read: ReadSearch,
     ) -> Result<SearchStep, AllocError>
         ensures step { (text : List ℕ) (search : Search) (config : configs.IndexConfig) (client : steps.Client) (core : Core) (log : Log) →
-            IsConfigured config core → asked_of config text ≡ Ok search → IsRead config.schema search read → client.request ≡ opened text →
+            IsConfigured config core → asked_of config text ≡ Ok (IsSearch search) → IsRead config.schema search read → client.request ≡ opened text →
             G.Stands gate.old core log → IsAtWork self.old client core →
             SearchesAs G.Stands G.Between G.Adds gate.old result self.new gate.new client core log }
         ensures plans { (s : Schema) (search : Search) → IsRead s search read →
@@ -293,7 +310,32 @@ impl Searcher {
         }
     }
 
-    fn plan<G: Gate>(
+    // The task of a delete is added, in one call, and the client sees it from then on.
+    fn delete<G: Gate>(
+        &mut self,
+        alloc: Global,
+        gate: &mut G,
+        ask: &DeleteAsk,
+    ) -> Result<SearchStep, AllocError>
+        requires { CanAsk ask.now }
+        ensures step { (text : List ℕ) (deletion : Deletion) (config : configs.IndexConfig) (client : steps.Client) (core : Core) (log : Log) →
+            IsConfigured config core → asked_of config text ≡ Ok (IsDelete deletion) → ask.now ≡ ask_of deletion → client.request ≡ opened text →
+            G.Stands gate.old core log → IsAtWork self.old client core →
+            SearchesAs G.Stands G.Between G.Adds gate.old result self.new gate.new client core log }
+        ensures adds { AddsUnlessShort G.Stands G.Between G.Owns G.Adds G.bytes_fetched G.Answers ask.now self.old.front result gate.old gate.new }
+        ensures leaves { self.old.request ≡ requests.Vacant → Works self.old result self.new }
+    {
+        match gate.add_task(alloc, ask) {
+            Ok(receipt) => {
+                let opstamp = receipt.opstamp;
+                Ok(self.reply(receipt.revision, Said::Deleted { opstamp }))
+            }
+            Err(error) => self.refuse(self.front, error),
+        }
+    }
+
+    // The first step of a text.
+    fn take_up<G: Gate>(
         &mut self,
         alloc: Global,
         gate: &mut G,
@@ -302,11 +344,12 @@ impl Searcher {
         ensures step { (client : steps.Client) (core : Core) (log : Log) → client.request ≡ opened text.now → G.Stands gate.old core log →
             IsAtWork self.old client core → SearchesAs G.Stands G.Between G.Adds gate.old result self.new gate.new client core log }
         ensures plans { let config = G.configured gate.old in
-            PlansUnlessShort G.Stands G.Between G.Owns G.Adds G.bytes_fetched G.Answers config.schema (asked_of config text.now) self.old.front self.new.request result gate.old gate.new }
+            AnswersText G.Stands G.Between G.Owns G.Adds G.bytes_fetched G.Answers config.schema (asked_of config text.now) self.old.front self.new.request result gate.old gate.new }
         ensures leaves { self.old.request ≡ requests.Vacant → Works self.old result self.new }
     {
-        match read_search(alloc, gate.config(), text.as_slice()) {
-            Ok(read) => self.plan_read(alloc, gate, read),
+        match read_request(alloc, gate.config(), text.as_slice()) {
+            Ok(ReadRequest::Search(read)) => self.plan_read(alloc, gate, read),
+            Ok(ReadRequest::Delete(ask)) => self.delete(alloc, gate, &ask),
             Err(Unanswered::Refused(refusal)) => self.refuse_asked(alloc, gate, refusal),
             Err(Unanswered::Memory(refused)) => Err(refused),
         }
@@ -398,7 +441,7 @@ impl Searcher {
         ensures draws { (search : steps.Plan) (client : steps.Client) (core : Core) (log : Log) → client.request ≡ steps.planned search →
             G.Stands gate.old core log → SearcherStands self.old client core log →
             StepDraws self.old search result (G.bytes_fetched gate.old) (G.bytes_fetched gate.new) core }
-        // Whatever the gate tells: what it answers where it plans, by what its call answered.
+        // Whatever the gate tells: what it answers to a text, which it plans or whose task it adds, by what its call answered.
         ensures plans { StepPlans G.Stands G.Between G.Owns G.Adds G.bytes_fetched G.Answers (G.configured gate.old) self.old self.new result gate.old gate.new }
         // Where it fetches of a planned split, by the bytes that its calls gave.
         ensures reads { StepReads G.Stands G.Between G.Owns G.Adds G.bytes_fetched G.told G.Answers self.old self.new result gate.old gate.new }
@@ -409,7 +452,7 @@ impl Searcher {
     {
         match mem::replace(&mut self.request, Request::Vacant) {
             Request::Vacant => Ok(SearchStep::Idle),
-            Request::Opened(text) => self.plan(alloc, gate, &text),
+            Request::Opened(text) => self.take_up(alloc, gate, &text),
             Request::Planned(planned) => self.go_on(rt, alloc, gate, planned),
         }
     }

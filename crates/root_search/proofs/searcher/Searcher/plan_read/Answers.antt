@@ -9,7 +9,7 @@ use Rattle.root_search.specs.declared.searcher.Searcher.{Searcher}
 use Rattle.root_search.proofs.Leaving.{works_planned}
 use Rattle.root_search.proofs.PlannedRows.{plan_ends}
 use Rattle.root_search.proofs.Planning.{begins, plans_as}
-use Rattle.root_search.proofs.Stands.{config_after, configured_after, work_goes_on}
+use Rattle.root_search.proofs.Stands.{config_before, configured_after, work_goes_on}
 use Rattle.root_search.proofs.Fetches.{by_does}
 use Rattle.root_search.proofs.Recorded.{want_is}
 use Rattle.root_search.proofs.Steps.{says_ok, says_err, planned_as}
@@ -18,11 +18,12 @@ use Rattle.root_search.proofs.searcher.Searcher.plan_read.Goals as goal
 pub returns-in-Ok-clause-step : goal.returns-in-Ok-clause-step
 returns-in-Ok-clause-step g c text search config client core log configured word read asked stands w =
     let d = c.in-Ok.ensures.step core log stands in
+    let others = (g.met.G.Gate.between_goes core d.mid d.passed).grown in
     let on = by_does g.G.Gate.Between g.met.G.Gate.between_goes core d.mid d.acts.after d.passed d.acts.goes_on in
     let s = says_ok (IsPlan c.args.read.choice) c.in-Ok.plan d.acts.answer d.acts.after d.acts.says in
     let sound = g.met.G.Gate.is_sound c.plan.new.self d.acts.after log d.acts.stands in
     planned_as g.G.Gate.Stands g.G.Gate.Between g.G.Gate.Adds c.args.gate.now _ _ _ client core log text config d.mid d.acts.fate d.acts.answer (Ok tt) (Ok search) d.acts.after d.passed d.acts.did on d.acts.stands asked
-    (config_after core d.acts.after log config sound configured on.always) word s.0
+    (config_before core d.mid d.acts.after log config (g.met.G.Gate.is_sound c.args.gate.now core log stands) sound configured others.0 others.1 d.acts.goes_on.grown.0 d.acts.goes_on.grown.1) word s.0
     (subst (λ (s : Searcher). Ends (Ok (Planned c.in-Ok.plan.revision c.len-count.result)) s (with_plan search client d.acts.after) log) (sym c.hold.ensures)
     (plan_ends c.args.self.now client search c.args.read _ c.len-count.result config d.acts.after log sound (configured_after core d.acts.after config configured on.always) s.1 read refl refl c.vacant.ensures c.len-count.ensures (work_goes_on c.args.self.now client core d.acts.after on.always w)))
     c.args.read.choice ⊥ d.made (λ short. absurd short) d.own d.once
@@ -30,10 +31,11 @@ returns-in-Ok-clause-step g c text search config client core log configured word
 pub returns-in-Err-clause-step : goal.returns-in-Err-clause-step
 returns-in-Err-clause-step g c text search config client core log configured word read asked stands w =
     let d = c.in-Err.ensures.step core log stands in
+    let others = (g.met.G.Gate.between_goes core d.mid d.passed).grown in
     let on = by_does g.G.Gate.Between g.met.G.Gate.between_goes core d.mid d.acts.after d.passed d.acts.goes_on in
     let s = says_err (IsPlan c.args.read.choice) c.in-Err.error d.acts.answer d.acts.after d.acts.says in
     planned_as g.G.Gate.Stands g.G.Gate.Between g.G.Gate.Adds c.args.gate.now _ _ _ client core log text config d.mid d.acts.fate d.acts.answer (Err s.0) (Ok search) d.acts.after d.passed d.acts.did on d.acts.stands asked
-    (config_after core d.acts.after log config (g.met.G.Gate.is_sound c.plan.new.self d.acts.after log d.acts.stands) configured on.always) word s.1
+    (config_before core d.mid d.acts.after log config (g.met.G.Gate.is_sound c.args.gate.now core log stands) (g.met.G.Gate.is_sound c.plan.new.self d.acts.after log d.acts.stands) configured others.0 others.1 d.acts.goes_on.grown.0 d.acts.goes_on.grown.1) word s.1
     (subst (λ r. Ends c.refuse.result c.refuse.new.self (trouble_replied r s.0 client d.acts.after) log) w.front (c.refuse.ensures.step s.0 client d.acts.after log s.2 (work_goes_on c.args.self.now client core d.acts.after on.always w)))
     c.args.read.choice (IsWant c.in-Err.error) d.made (λ short. ap (λ (t : Trouble). Err t) (want_is c.in-Err.error s.0 short s.2)) d.own d.once
 

@@ -7,7 +7,7 @@ use Rattle.search_api.specs.declared.reply.Said.TheVariants.{Refused}
 use Rattle.search_api.specs.declared.unanswered.Unanswered.TheVariants as reasons
 use Rattle.root_search.specs.Searching.{Ends}
 use Rattle.root_search.specs.Steps.{reply_with}
-use Rattle.root_search.proofs.Stands.{config_after, work_goes_on}
+use Rattle.root_search.proofs.Stands.{config_before, work_goes_on}
 use Rattle.root_search.proofs.Fetches.{by_does}
 use Rattle.root_search.proofs.Leaving.{works_replied}
 use Rattle.root_search.proofs.Planning.{plans_as}
@@ -19,20 +19,22 @@ use Rattle.root_search.proofs.searcher.Searcher.refuse_asked.Goals as goal
 pub returns-in-Ok-clause-step : goal.returns-in-Ok-clause-step
 returns-in-Ok-clause-step g c text config client core log configured none asked stands w =
     let d = c.in-Ok.ensures.step core log stands in
+    let others = (g.met.G.Gate.between_goes core d.mid d.passed).grown in
     let on = by_does g.G.Gate.Between g.met.G.Gate.between_goes core d.mid d.acts.after d.passed d.acts.goes_on in
     let s = says_ok (IsPlan Look) c.in-Ok.plan d.acts.answer d.acts.after d.acts.says in
     planned_as g.G.Gate.Stands g.G.Gate.Between g.G.Gate.Adds c.args.gate.now _ _ _ client core log text config d.mid d.acts.fate d.acts.answer (Ok tt) (Err (reasons.Refused c.args.refusal)) d.acts.after d.passed d.acts.did on d.acts.stands asked
-    (config_after core d.acts.after log config (g.met.G.Gate.is_sound c.plan.new.self d.acts.after log d.acts.stands) configured on.always) none s.0
+    (config_before core d.mid d.acts.after log config (g.met.G.Gate.is_sound c.args.gate.now core log stands) (g.met.G.Gate.is_sound c.plan.new.self d.acts.after log d.acts.stands) configured others.0 others.1 d.acts.goes_on.grown.0 d.acts.goes_on.grown.1) none s.0
     (subst (λ r. Ends (Ok c.reply.result) c.reply.new.self (reply_with r (Refused c.args.refusal) client d.acts.after) log) s.1.revision (c.reply.ensures.step client d.acts.after log (work_goes_on c.args.self.now client core d.acts.after on.always w)))
     Look ⊥ d.made (λ short. absurd short) d.own d.once
 
 pub returns-in-Err-clause-step : goal.returns-in-Err-clause-step
 returns-in-Err-clause-step g c text config client core log configured none asked stands w =
     let d = c.in-Err.ensures.step core log stands in
+    let others = (g.met.G.Gate.between_goes core d.mid d.passed).grown in
     let on = by_does g.G.Gate.Between g.met.G.Gate.between_goes core d.mid d.acts.after d.passed d.acts.goes_on in
     let s = says_err (IsPlan Look) c.in-Err.error d.acts.answer d.acts.after d.acts.says in
     planned_as g.G.Gate.Stands g.G.Gate.Between g.G.Gate.Adds c.args.gate.now _ _ _ client core log text config d.mid d.acts.fate d.acts.answer (Err s.0) (Err (reasons.Refused c.args.refusal)) d.acts.after d.passed d.acts.did on d.acts.stands asked
-    (config_after core d.acts.after log config (g.met.G.Gate.is_sound c.plan.new.self d.acts.after log d.acts.stands) configured on.always) none s.1
+    (config_before core d.mid d.acts.after log config (g.met.G.Gate.is_sound c.args.gate.now core log stands) (g.met.G.Gate.is_sound c.plan.new.self d.acts.after log d.acts.stands) configured others.0 others.1 d.acts.goes_on.grown.0 d.acts.goes_on.grown.1) none s.1
     (c.refuse_unplanned.ensures.step s.0 client d.acts.after log s.2 (work_goes_on c.args.self.now client core d.acts.after on.always w))
     Look (IsWant c.in-Err.error) d.made (λ short. ap (λ (t : Trouble). Err t) (want_is c.in-Err.error s.0 short s.2)) d.own d.once
 

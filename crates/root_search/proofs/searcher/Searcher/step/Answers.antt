@@ -3,7 +3,7 @@ use Rattle.root_search.specs.declared.searcher.Request.{Request}
 use Rattle.root_search.specs.declared.searcher.Request.TheVariants.{Opened, Planned, Vacant}
 use Rattle.root_search.specs.Requests.{asked_of}
 use Rattle.root_search.specs.Searching.{IsPlanned, IsRequest}
-use Rattle.root_search.specs.StepPlans.{PlansUnlessShort}
+use Rattle.root_search.specs.StepPlans.{AnswersText}
 use Rattle.root_search.specs.Steps.{no_request, opened}
 use Rattle.root_search.proofs.Leaving.{idle_leaves, opened_leaves, planned_leaves, vacant_same, works_behind}
 use Rattle.root_search.proofs.Steps.{idle_as, opened_one, opened_unplanned, planned_is, planned_one, vacant_unopened, vacant_unplanned}
@@ -29,7 +29,7 @@ pub returns-in-Opened-clause-step : goal.returns-in-Opened-clause-step
 returns-in-Opened-clause-step g c client core log good stands s =
     let was : c.args.self.now.request ≡ Opened c.in-Opened.text = sym c.replace.ensures.value ∙ c.in-Opened.is in
     let asked : client.request ≡ opened c.in-Opened.text = subst (λ r. IsRequest c.args.self.now.footers r client.request core log) was s.request in
-    c.plan.ensures.step client core log asked stands (record { vacant = c.replace.ensures.after; name = s.name; front = s.front; footers = s.footers })
+    c.take_up.ensures.step client core log asked stands (record { vacant = c.replace.ensures.after; name = s.name; front = s.front; footers = s.footers })
 
 pub returns-in-Opened-clause-draws : goal.returns-in-Opened-clause-draws
 returns-in-Opened-clause-draws g c plan client core log asked stands s =
@@ -80,7 +80,7 @@ pub returns-in-Opened-clause-plans : goal.returns-in-Opened-clause-plans
 returns-in-Opened-clause-plans g c text is =
     let same : text ≡ c.in-Opened.text = opened_one c.args.self.now.request c.in-Opened.text text (sym c.replace.ensures.value ∙ c.in-Opened.is) is in
     let config = g.G.Gate.configured c.args.gate.now in
-    subst (λ (t : List ℕ). PlansUnlessShort g.G.Gate.Stands g.G.Gate.Between g.G.Gate.Owns g.G.Gate.Adds g.G.Gate.bytes_fetched g.G.Gate.Answers config.schema (asked_of config t) c.args.self.now.front c.plan.new.self.request c.plan.result c.args.gate.now c.plan.new.gate) (sym same) c.plan.ensures.plans
+    subst (λ (t : List ℕ). AnswersText g.G.Gate.Stands g.G.Gate.Between g.G.Gate.Owns g.G.Gate.Adds g.G.Gate.bytes_fetched g.G.Gate.Answers config.schema (asked_of config t) c.args.self.now.front c.take_up.new.self.request c.take_up.result c.args.gate.now c.take_up.new.gate) (sym same) c.take_up.ensures.plans
 
 pub returns-in-Planned-clause-plans : goal.returns-in-Planned-clause-plans
 returns-in-Planned-clause-plans g c text is = absurd (opened_unplanned c.args.self.now.request text c.in-Planned.planned is (sym c.replace.ensures.value ∙ c.in-Planned.is))
@@ -92,8 +92,8 @@ returns-in-Vacant-clause-leaves g c =
 
 pub returns-in-Opened-clause-leaves : goal.returns-in-Opened-clause-leaves
 returns-in-Opened-clause-leaves g c =
-    opened_leaves c.args.self.now c.plan.new.self c.plan.result c.in-Opened.text (sym c.replace.ensures.value ∙ c.in-Opened.is)
-    (works_behind c.args.self.now _ c.plan.new.self c.plan.result refl refl (λ number footer kept. kept) (c.plan.ensures.leaves c.replace.ensures.after))
+    opened_leaves c.args.self.now c.take_up.new.self c.take_up.result c.in-Opened.text (sym c.replace.ensures.value ∙ c.in-Opened.is)
+    (works_behind c.args.self.now _ c.take_up.new.self c.take_up.result refl refl (λ number footer kept. kept) (c.take_up.ensures.leaves c.replace.ensures.after))
 
 pub returns-in-Planned-clause-leaves : goal.returns-in-Planned-clause-leaves
 returns-in-Planned-clause-leaves g c =
