@@ -4,7 +4,7 @@ use Rattle.std.specs.Prelude.{◌==◌, decimal, codes}
 use Rattle.byte_fields.specs.ClientName.{IsClientName}
 use Rattle.indexing_run.specs.Outcomes.{words}
 use Rattle.node_run.specs.Lines.{Spells, AreNames}
-use Rattle.node_run.specs.Node.{Line, At, Assign, StepIndexer, RestartIndexer, RestartClient, StepMerger, RestartMerger, StepCollector, RestartCollector, RestartNode, Open, StepClient}
+use Rattle.node_run.specs.Node.{Line, At, Assign, StepIndexer, RestartIndexer, RestartClient, StepMerger, RestartMerger, StepDeleter, RestartDeleter, StepCollector, RestartCollector, RestartNode, Open, StepClient}
 
 abbrev byte_at : ℕ → List ℕ → ℕ
 byte_at k [] = 0
@@ -47,6 +47,8 @@ at_only rest (RestartIndexer i) s = absurd (differ 0 _ _ refl s.is)
 at_only rest (RestartClient name) s = absurd (differ 0 _ _ refl s.is)
 at_only rest StepMerger s = absurd (differ 0 _ _ refl s.is)
 at_only rest RestartMerger s = absurd (differ 0 _ _ refl s.is)
+at_only rest StepDeleter s = absurd (differ 0 _ _ refl s.is)
+at_only rest RestartDeleter s = absurd (differ 0 _ _ refl s.is)
 at_only rest StepCollector s = absurd (differ 0 _ _ refl s.is)
 at_only rest RestartCollector s = absurd (differ 0 _ _ refl s.is)
 at_only rest RestartNode s = absurd (differ 0 _ _ refl s.is)
@@ -61,6 +63,8 @@ assign_only rest (RestartIndexer i) s = absurd (differ 0 _ _ refl s.is)
 assign_only rest (RestartClient name) s = absurd (differ 0 _ _ refl s.is)
 assign_only rest StepMerger s = absurd (differ 0 _ _ refl s.is)
 assign_only rest RestartMerger s = absurd (differ 0 _ _ refl s.is)
+assign_only rest StepDeleter s = absurd (differ 0 _ _ refl s.is)
+assign_only rest RestartDeleter s = absurd (differ 0 _ _ refl s.is)
 assign_only rest StepCollector s = absurd (differ 0 _ _ refl s.is)
 assign_only rest RestartCollector s = absurd (differ 0 _ _ refl s.is)
 assign_only rest RestartNode s = absurd (differ 0 _ _ refl s.is)
@@ -75,6 +79,8 @@ client_only rest (RestartIndexer i) s = absurd (differ 0 _ _ refl s.is)
 client_only rest (RestartClient name) s = absurd (differ 0 _ _ refl s.is)
 client_only rest StepMerger s = absurd (differ 0 _ _ refl s.is)
 client_only rest RestartMerger s = absurd (differ 0 _ _ refl s.is)
+client_only rest StepDeleter s = absurd (differ 0 _ _ refl s.is)
+client_only rest RestartDeleter s = absurd (differ 0 _ _ refl s.is)
 client_only rest StepCollector s = absurd (differ 1 _ _ refl s.is)
 client_only rest RestartCollector s = absurd (differ 0 _ _ refl s.is)
 client_only rest RestartNode s = absurd (differ 0 _ _ refl s.is)

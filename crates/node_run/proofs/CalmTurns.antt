@@ -16,10 +16,10 @@ use Rattle.upkeep_run.specs.Places.{Place as Worker}
 use Rattle.upkeep_run.specs.Steps.{step_worker}
 use Rattle.upkeep_run.specs.Steps as working
 use Rattle.upkeep_run.specs.declared.work.Aim.{Aim}
-use Rattle.upkeep_run.specs.declared.work.Aim.TheVariants.{Merging}
+use Rattle.upkeep_run.specs.declared.work.Aim.TheVariants.{Deleting, Merging}
 use Rattle.node_run.specs.Calm.{IsStill, log_counts, IsOfThese}
-use Rattle.node_run.specs.Node.{Node, Line, At, Assign, StepIndexer, RestartIndexer, RestartClient, StepMerger, RestartMerger, StepCollector, RestartCollector, RestartNode, Open, StepClient, Outcome}
-use Rattle.node_run.specs.Turns.{Luck, calm, Turned, indexer_at, client_named, indexing_luck, searching_luck, said_by_indexer, said_by_client, indexer_stepped, indexer_turn_by, client_stepped, client_turn_by, working_luck, said_by_worker, worker_stepped, worker_turn_by, with_merger, collecting_luck, said_by_collector, collector_stepped, collector_turn_by, restart_by, restart_given, full_turn, or_quiet, turn_by, turn, Turns, run_turned, turns, turns_with, with_calm}
+use Rattle.node_run.specs.Node.{Node, Line, At, Assign, StepIndexer, RestartIndexer, RestartClient, StepMerger, RestartMerger, StepDeleter, RestartDeleter, StepCollector, RestartCollector, RestartNode, Open, StepClient, Outcome}
+use Rattle.node_run.specs.Turns.{Luck, calm, Turned, indexer_at, client_named, indexing_luck, searching_luck, said_by_indexer, said_by_client, indexer_stepped, indexer_turn_by, client_stepped, client_turn_by, working_luck, said_by_worker, worker_stepped, worker_turn_by, with_deleter, with_merger, collecting_luck, said_by_collector, collector_stepped, collector_turn_by, restart_by, restart_given, full_turn, or_quiet, turn_by, turn, Turns, run_turned, turns, turns_with, with_calm}
 use Rattle.node_run.proofs.Calming.{Same, Calms}
 use Rattle.node_run.proofs.CalmSteps.{StepCalms, SearchCalms, calm_indexing, calm_searching, loaded_calms, indexer_calms, client_calms}
 use Rattle.node_run.proofs.CollectorCalms.{CollectCalms, calm_collecting, collector_calms}
@@ -127,6 +127,8 @@ module _ (luck : Luck) (node : Node) (s : IsStill node.core) (below : Below node
   full_calms (RestartClient name) of small same counts = inr refl
   full_calms StepMerger of small same counts = worker_line_calm node.down Merging node.merger with_merger same
   full_calms RestartMerger of small same counts = inr refl
+  full_calms StepDeleter of small same counts = worker_line_calm node.down Deleting node.deleter with_deleter same
+  full_calms RestartDeleter of small same counts = inr refl
   full_calms StepCollector of small same counts = collector_line_calm node.down small same
   full_calms RestartCollector of small same counts = inr refl
   full_calms RestartNode of small same counts = restart_line_calm same

@@ -1,6 +1,7 @@
 pub mod OnLiterals
 pub mod Rows
 pub mod MergerRows
+pub mod DeleterRows
 pub mod CallMoves
 pub mod CollectorMoves
 pub mod WorkerMoves
@@ -28,6 +29,7 @@ pub mod WorkerTells
 pub mod Telling
 pub mod Workers
 pub mod Parts
+pub mod WorkerParts
 pub mod StillCalls
 pub mod LogCounts
 pub mod CalmTurns

@@ -18,10 +18,10 @@ use Rattle.root_search.specs.Steps.{Request, no_request, opened, planned, Client
 use Rattle.upkeep_run.specs.Places.{Place as Worker}
 use Rattle.upkeep_run.specs.Steps.{step_worker}
 use Rattle.upkeep_run.specs.declared.work.Aim.{Aim}
-use Rattle.upkeep_run.specs.declared.work.Aim.TheVariants.{Merging}
+use Rattle.upkeep_run.specs.declared.work.Aim.TheVariants.{Deleting, Merging}
 use Rattle.node_run.specs.Calm.{log_counts}
-use Rattle.node_run.specs.Node.{Node, Line, At, Assign, StepIndexer, RestartIndexer, RestartClient, StepMerger, RestartMerger, StepCollector, RestartCollector, RestartNode, Open, StepClient, Outcome}
-use Rattle.node_run.specs.Turns.{Luck, Turned, made_idle, indexer_at, indexing_luck, assign_at, indexer_turn_by, client_turn_by, client_named, working_luck, worker_turn_by, with_merger, collector_turn_by, open_by, restart_by, full_turn, quiet, or_quiet, turn_by, Turn, Turns}
+use Rattle.node_run.specs.Node.{Node, Line, At, Assign, StepIndexer, RestartIndexer, RestartClient, StepMerger, RestartMerger, StepDeleter, RestartDeleter, StepCollector, RestartCollector, RestartNode, Open, StepClient, Outcome}
+use Rattle.node_run.specs.Turns.{Luck, Turned, made_idle, indexer_at, indexing_luck, assign_at, indexer_turn_by, client_turn_by, client_named, working_luck, worker_turn_by, with_deleter, with_merger, collector_turn_by, open_by, restart_by, full_turn, quiet, or_quiet, turn_by, Turn, Turns}
 use Rattle.node_run.proofs.CalmSteps.{checkpoints_log}
 
 -- ---- one count
@@ -199,6 +199,8 @@ module _ (node : Node) where
   full_counted luck (RestartClient name) = unchanged node.indexers refl
   full_counted luck StepMerger = worker_counted node.down Merging node.merger with_merger luck (λ place. refl)
   full_counted luck RestartMerger = unchanged node.indexers refl
+  full_counted luck StepDeleter = worker_counted node.down Deleting node.deleter with_deleter luck (λ place. refl)
+  full_counted luck RestartDeleter = unchanged node.indexers refl
   full_counted luck StepCollector = collector_counted node.down luck
   full_counted luck RestartCollector = unchanged node.indexers refl
   full_counted luck RestartNode = let given = loaded luck.world node.core in restart_counted given.answer given.core
@@ -213,6 +215,8 @@ module _ (node : Node) where
   quiet_counted (RestartClient name) = unchanged node.indexers refl
   quiet_counted StepMerger = unchanged node.indexers refl
   quiet_counted RestartMerger = unchanged node.indexers refl
+  quiet_counted StepDeleter = unchanged node.indexers refl
+  quiet_counted RestartDeleter = unchanged node.indexers refl
   quiet_counted StepCollector = unchanged node.indexers refl
   quiet_counted RestartCollector = unchanged node.indexers refl
   quiet_counted RestartNode = unchanged (map made_idle node.indexers) (idle_same node.indexers)

@@ -22,9 +22,9 @@ use Rattle.search_api.specs.declared.unanswered.Unanswered.{Unanswered}
 use Rattle.search_api.specs.declared.unanswered.Unanswered.TheVariants as reasons
 use Rattle.upkeep_run.specs.Places.{Place as Worker}
 use Rattle.upkeep_run.specs.declared.work.Aim.{Aim}
-use Rattle.upkeep_run.specs.declared.work.Aim.TheVariants.{Merging}
-use Rattle.node_run.specs.Node.{Node, Line, At, Assign, StepIndexer, RestartIndexer, RestartClient, StepMerger, RestartMerger, StepCollector, RestartCollector, RestartNode, Open, StepClient, Outcome}
-use Rattle.node_run.specs.Turns.{Luck, Turned, indexer_at, indexing_luck, searching_luck, assign_at, indexer_turn_by, client_turn_by, client_named, working_luck, worker_turn_by, with_merger, collecting_luck, collector_turn_by, open_by, restart_by, full_turn, quiet, or_quiet, turn_by, Turn, Turns}
+use Rattle.upkeep_run.specs.declared.work.Aim.TheVariants.{Deleting, Merging}
+use Rattle.node_run.specs.Node.{Node, Line, At, Assign, StepIndexer, RestartIndexer, RestartClient, StepMerger, RestartMerger, StepDeleter, RestartDeleter, StepCollector, RestartCollector, RestartNode, Open, StepClient, Outcome}
+use Rattle.node_run.specs.Turns.{Luck, Turned, indexer_at, indexing_luck, searching_luck, assign_at, indexer_turn_by, client_turn_by, client_named, working_luck, worker_turn_by, with_deleter, with_merger, collecting_luck, collector_turn_by, open_by, restart_by, full_turn, quiet, or_quiet, turn_by, Turn, Turns}
 use Rattle.node_run.proofs.CallMoves.{Later, Moves, same, stays, later_same, later_on, moves_on, appended_moves, looked_moves, asked_and_looked_moves, asked_moves, file_made_moves, each_moves, loaded_moves}
 use Rattle.node_run.proofs.CollectorMoves.{collector_moves}
 use Rattle.node_run.proofs.WorkerMoves.{worker_moves}
@@ -197,6 +197,8 @@ full_later luck node (RestartIndexer i) = later_same refl refl
 full_later luck node (RestartClient name) = later_same refl refl
 full_later luck node StepMerger = (worker_turn_moves node.down Merging node.merger with_merger luck node).later
 full_later luck node RestartMerger = later_same refl refl
+full_later luck node StepDeleter = (worker_turn_moves node.down Deleting node.deleter with_deleter luck node).later
+full_later luck node RestartDeleter = later_same refl refl
 full_later luck node StepCollector = (collector_turn_moves node.down luck node).later
 full_later luck node RestartCollector = later_same refl refl
 full_later luck node RestartNode =
@@ -213,6 +215,8 @@ quiet_same (RestartIndexer i) node = refl
 quiet_same (RestartClient name) node = refl
 quiet_same StepMerger node = refl
 quiet_same RestartMerger node = refl
+quiet_same StepDeleter node = refl
+quiet_same RestartDeleter node = refl
 quiet_same StepCollector node = refl
 quiet_same RestartCollector node = refl
 quiet_same RestartNode node = refl

@@ -21,7 +21,7 @@ use Rattle.indexing_run.proofs.Holding.{indexer_stays}
 use Rattle.indexing_run.specs.Outcomes.{IndexerOutcome}
 use Rattle.indexing_run.specs.Making.{IsAssigned}
 use Rattle.indexing_run.specs.Places.{Indexer, Place, reading, staged, uploaded, idle, is_idle, number_held}
-use Rattle.node_run.specs.Alone.{CollectsAlone, SearchesAlone, StepsAlone, WorksAlone}
+use Rattle.node_run.specs.Alone.{CollectsAlone, SearchesAlone, StepsAlone}
 use Rattle.node_run.specs.Lines.{AreNames}
 use Rattle.node_run.specs.Seen.{seen}
 use Rattle.node_run.specs.declared.line.Line.{Line as CodeLine}
@@ -49,26 +49,23 @@ use Rattle.split_collector.specs.declared.outcome.CollectorOutcome.{CollectorOut
 use Rattle.upkeep_run.specs.Places.{Place as Worker}
 use Rattle.upkeep_run.specs.Places as workers
 use Rattle.upkeep_run.specs.Standing as works
-use Rattle.upkeep_run.specs.declared.work.Aim.{Aim}
-use Rattle.upkeep_run.specs.declared.work.Aim.TheVariants.{Merging}
-use Rattle.upkeep_run.specs.declared.outcome.UpkeepOutcome.{UpkeepOutcome as Worked}
+use Rattle.upkeep_run.specs.declared.work.Aim.TheVariants.{Deleting, Merging}
 use Rattle.upkeep_run.specs.declared.work.Place.{Place as WorkerPlace}
 use Rattle.node_run.specs.declared.drive.DriveNode.{DriveNode}
 use Rattle.node_run.specs.declared.out_line.OutLine.{OutLine}
 use Rattle.node_run.specs.Lines.{outcome_text}
 use Rattle.node_run.specs.Named.{NamedAt, names_of, HasPlaces}
-use Rattle.node_run.specs.Node.{Node, Line, At, Assign, StepIndexer, RestartIndexer, RestartClient, StepMerger, RestartMerger, StepCollector, RestartCollector, RestartNode, Open, StepClient, Outcome, request_busy, assigned, indexer_busy, node_failed, world_fault, no_index}
-use Rattle.node_run.specs.Standing.{PartsStand, NodeStands, DoesMost, DoesLine, HoldApart, HoldsOther}
-use Rattle.node_run.specs.Turns.{restart_by, Luck, calm, Turn, Turned, turned, full_turn, quiet, assign_at, with_indexer, indexer_at, made_idle, client_named, with_client, keep_client, stopped, restarted, indexer_stepped, client_stepped, indexer_turn_by, client_turn_by, said_by_indexer, said_by_client, said_by_worker, with_merger, worker_stepped, worker_turn_by, collector_stepped, collector_turn_by, said_by_collector, open_by}
+use Rattle.node_run.specs.Node.{Node, Line, At, Assign, StepIndexer, RestartIndexer, RestartClient, StepMerger, RestartMerger, StepDeleter, RestartDeleter, StepCollector, RestartCollector, RestartNode, Open, StepClient, Outcome, request_busy, assigned, indexer_busy, node_failed, world_fault, no_index}
+use Rattle.node_run.specs.Standing.{PartsStand, NodeStands, DoesMost, DoesLine, HoldApart}
+use Rattle.node_run.specs.Turns.{restart_by, Luck, calm, Turn, Turned, turned, full_turn, quiet, assign_at, with_indexer, indexer_at, made_idle, client_named, with_client, keep_client, stopped, restarted, indexer_stepped, client_stepped, indexer_turn_by, client_turn_by, said_by_indexer, said_by_client, with_deleter, with_merger, worker_turn_by, collector_stepped, collector_turn_by, said_by_collector, open_by}
 use Rattle.node_run.proofs.Telling.{stands_own}
 use Rattle.node_run.proofs.Names.{with_with, named_set}
 use Rattle.node_run.proofs.Places.{names_with, names_without}
 use Rattle.node_run.proofs.CallMoves.{loaded_moves}
 use Rattle.node_run.proofs.CollectorMoves.{collector_moves}
 use Rattle.node_run.proofs.Moving.{indexer_moves, client_moves}
-use Rattle.node_run.proofs.WorkerMoves.{worker_moves}
-use Rattle.node_run.proofs.Workers.{all_idle_other, idle_other, idle_worker_over, other_at, other_of_indexer, other_of_worker, set_other, worker_goes_on, worker_staged}
-use Rattle.node_run.proofs.Zips.{zip_length, zip_weaker, zip_set, zip_at, zip_right, map_set, map_at, others_apart, zip_step, zip_both, all_both, new_apart, idle_apart, idle_all_apart, same_apart, other_of}
+use Rattle.node_run.proofs.Workers.{all_idle_other, idle_work_apart, idle_other, idle_worker_over, other_at, other_of_indexer, set_other, worker_goes_on, worker_staged}
+use Rattle.node_run.proofs.Zips.{zip_length, zip_weaker, zip_set, zip_at, zip_right, map_set, map_at, others_apart, zip_step, new_apart, idle_apart, idle_all_apart, same_apart, other_of}
 
 -- ---- what is answered
 
@@ -93,7 +90,7 @@ module _ {S L : Type 0} (told : L → Option Log) (count : L → ℕ) (since : L
 pub clock_on : (core : Core) (clock : ℕ) → GoesOn None core (record core { clock = clock })
 clock_on core clock = moment_goes (IsOther None) core core.moment clock (omega arith)
 
-staged_of : {L : Type 0} (told : L → Option Log) (count : L → ℕ) (reader : Reader L) (indexer : Indexer) (core : Core) (log : Log) (n : ℕ) →
+pub staged_of : {L : Type 0} (told : L → Option Log) (count : L → ℕ) (reader : Reader L) (indexer : Indexer) (core : Core) (log : Log) (n : ℕ) →
     IndexerStands told count reader indexer core log → number_held indexer.place ≡ Some n → has_staged (journal_of core) n ≡ true
 staged_of {L} told count reader indexer core log n s held = by reader.place s.place where
   some_same : (a b : ℕ) → Some a ≡ Some b → a ≡ b
@@ -111,8 +108,8 @@ staged_of {L} told count reader indexer core log n s held = by reader.place s.pl
       subst (λ m. has_staged (journal_of core) m ≡ true) (some_same p.0.number n (sym (ap number_held p.1) ∙ held)) p.3.staged.staged
 
 module _ {L : Type 0} (told : L → Option Log) (count : L → ℕ) (since : L → L → Type 0) (on_then : (a b c : L) → since a b → since b c → since a c) (firsts : List L)
-    (world : Keeping) (readers : List (Reader L)) (merger : WorkerPlace) (searchers : List Searcher) (places : List (List ℕ × ℕ)) (clock : ℕ) (down : Bool) (node : Node)
-    (p : PartsStand told count since firsts world readers merger searchers places clock down node) where
+    (world : Keeping) (readers : List (Reader L)) (merger deleter : WorkerPlace) (searchers : List Searcher) (places : List (List ℕ × ℕ)) (clock : ℕ) (down : Bool) (node : Node)
+    (p : PartsStand told count since firsts world readers merger deleter searchers places clock down node) where
   abbrev R : Reader L → Indexer → Type 0
   R reader indexer = IndexerStands told count reader indexer node.core node.log
 
@@ -128,7 +125,7 @@ module _ {L : Type 0} (told : L → Option Log) (count : L → ℕ) (since : L �
   -- it is made idle
   pub idle_parts : (i : ℕ) (old new : Reader L) → i < length readers → old ≡ get_or readers i old → since old.log new.log →
       ((indexer : Indexer) (core after : Core) (read : Log) → IndexerStands told count old indexer core read → IndexerStands told count new (made_idle indexer) after read) →
-      PartsStand told count since firsts world (slice_set readers i new) merger searchers places clock down (with_indexer i (made_idle (indexer_at node.indexers i)) node)
+      PartsStand told count since firsts world (slice_set readers i new) merger deleter searchers places clock down (with_indexer i (made_idle (indexer_at node.indexers i)) node)
   idle_parts i old new h e on again =
       record {
         world_stands = p.world_stands;
@@ -141,6 +138,9 @@ module _ {L : Type 0} (told : L → Option Log) (count : L → ℕ) (since : L �
         apart = idle_apart node.indexers i (indexer_at node.indexers i) p.apart;
         merging = p.merging;
         merger_apart = all_idle_other node.merger node.indexers p.merger_apart i;
+        deleting = p.deleting;
+        deleter_apart = all_idle_other node.deleter node.indexers p.deleter_apart i;
+        workers_apart = p.workers_apart;
         clients = p.clients;
         placed = p.placed;
         later = later_set i old new e on;
@@ -149,7 +149,7 @@ module _ {L : Type 0} (told : L → Option Log) (count : L → ℕ) (since : L �
   -- it stands for another one with the same place
   pub placed_parts : (i : ℕ) (old new : Reader L) (after : Indexer) → i < length readers → old ≡ get_or readers i old → since old.log new.log →
       after.place ≡ (indexer_at node.indexers i).place → IndexerStands told count new after node.core node.log →
-      PartsStand told count since firsts world (slice_set readers i new) merger searchers places clock down (with_indexer i after node)
+      PartsStand told count since firsts world (slice_set readers i new) merger deleter searchers places clock down (with_indexer i after node)
   placed_parts i old new after h e on same stands =
       record {
         world_stands = p.world_stands;
@@ -163,6 +163,11 @@ module _ {L : Type 0} (told : L → Option Log) (count : L → ℕ) (since : L �
         merger_apart = set_other node.merger node.indexers i after p.merger_apart
             (λ n at_merger at_after.
             other_at node.merger node.indexers i p.merger_apart (subst (λ n. i < n) (zip_length R readers node.indexers p.indexers) h) n at_merger (sym (ap number_held same) ∙ at_after));
+        deleting = p.deleting;
+        deleter_apart = set_other node.deleter node.indexers i after p.deleter_apart
+            (λ n at_deleter at_after.
+            other_at node.deleter node.indexers i p.deleter_apart (subst (λ n. i < n) (zip_length R readers node.indexers p.indexers) h) n at_deleter (sym (ap number_held same) ∙ at_after));
+        workers_apart = p.workers_apart;
         clients = p.clients;
         placed = p.placed;
         later = later_set i old new e on;
@@ -171,10 +176,11 @@ module _ {L : Type 0} (told : L → Option Log) (count : L → ℕ) (since : L �
   -- it took a step
   pub stepped_parts : (i : ℕ) (old new : Reader L) (world' : Keeping) (result : Result Said AllocError) → i < length readers → old ≡ get_or readers i old →
       since old.log new.log → (s : StepsAlone told count result (indexer_at node.indexers i) node.core node.log new world') →
-      PartsStand told count since firsts world' (slice_set readers i new) merger searchers places clock down (record (with_indexer i s.after node) { core = s.behind })
+      PartsStand told count since firsts world' (slice_set readers i new) merger deleter searchers places clock down (record (with_indexer i s.after node) { core = s.behind })
   stepped_parts i old new world' result h e on s =
       let apart = others_apart node.indexers i p.apart (subst (λ n. i < n) (zip_length R readers node.indexers p.indexers) h) in
-      let other = other_at node.merger node.indexers i p.merger_apart (subst (λ n. i < n) (zip_length R readers node.indexers p.indexers) h) in
+      let from_merger = other_at node.merger node.indexers i p.merger_apart (subst (λ n. i < n) (zip_length R readers node.indexers p.indexers) h) in
+      let from_deleter = other_at node.deleter node.indexers i p.deleter_apart (subst (λ n. i < n) (zip_length R readers node.indexers p.indexers) h) in
       record {
         world_stands = s.world_stands;
         is_log = p.is_log;
@@ -187,9 +193,14 @@ module _ {L : Type 0} (told : L → Option Log) (count : L → ℕ) (since : L �
             (λ reader indexer stands off n at_after at_other.
             off n (s.apart n (staged_of told count reader indexer node.core node.log n stands at_other) at_after) at_other);
         merging = worker_goes_on Merging node.core s.behind node.log (number_held (indexer_at node.indexers i).place) world' merger node.merger s.world_stands s.goes_on
-            (other_of_indexer node.merger (indexer_at node.indexers i) other) p.merging;
+            (other_of_indexer node.merger (indexer_at node.indexers i) from_merger) p.merging;
         merger_apart = set_other node.merger node.indexers i s.after p.merger_apart
-            (λ n at_merger at_after. other n at_merger (s.apart n (worker_staged Merging node.log node.core merger node.merger n p.merging at_merger) at_after));
+            (λ n at_merger at_after. from_merger n at_merger (s.apart n (worker_staged Merging node.log node.core merger node.merger n p.merging at_merger) at_after));
+        deleting = worker_goes_on Deleting node.core s.behind node.log (number_held (indexer_at node.indexers i).place) world' deleter node.deleter s.world_stands s.goes_on
+            (other_of_indexer node.deleter (indexer_at node.indexers i) from_deleter) p.deleting;
+        deleter_apart = set_other node.deleter node.indexers i s.after p.deleter_apart
+            (λ n at_deleter at_after. from_deleter n at_deleter (s.apart n (worker_staged Deleting node.log node.core deleter node.deleter n p.deleting at_deleter) at_after));
+        workers_apart = p.workers_apart;
         clients = zip_weaker C (λ searcher client. SearcherStands searcher client s.behind node.log)
             searchers node.clients (λ searcher client stands. searcher_goes_on (IsOther (number_held (indexer_at node.indexers i).place)) searcher client node.core s.behind node.log s.goes_on stands) p.clients;
         placed = p.placed;
@@ -201,7 +212,7 @@ module _ {L : Type 0} (told : L → Option Log) (count : L → ℕ) (since : L �
   -- of a list of searchers in which it is known, one is changed
   pub client_parts : (name : List ℕ) (known : List Searcher) (found : List (List ℕ × ℕ)) (m c : Client) (place : ℕ) (searcher : Searcher) → m.name ≡ name → c.name ≡ name →
       AllZip C known (with_client m node.clients) → HasPlaces found (names_of (with_client m node.clients)) → NamedAt name known place → SearcherStands searcher c node.core node.log →
-      PartsStand told count since firsts world readers merger (slice_set known place searcher) found clock down (keep_client c node)
+      PartsStand told count since firsts world readers merger deleter (slice_set known place searcher) found clock down (keep_client c node)
   client_parts name known found m c place searcher em ec zip has at stands =
       record {
         world_stands = p.world_stands;
@@ -212,6 +223,9 @@ module _ {L : Type 0} (told : L → Option Log) (count : L → ℕ) (since : L �
         apart = p.apart;
         merging = p.merging;
         merger_apart = p.merger_apart;
+        deleting = p.deleting;
+        deleter_apart = p.deleter_apart;
+        workers_apart = p.workers_apart;
         clients = subst (λ (l : List Client). AllZip C (slice_set known place searcher) l) (with_with c m node.clients (ec ∙ sym em))
             (named_set node.core node.core node.log name known (with_client m node.clients) place searcher c (λ t n w. w) ec at zip stands);
         placed = subst (HasPlaces found) (names_with m c node.clients (em ∙ sym ec)) has;
@@ -220,7 +234,7 @@ module _ {L : Type 0} (told : L → Option Log) (count : L → ℕ) (since : L �
 
   -- none is changed
   pub known_parts : (known : List Searcher) (found : List (List ℕ × ℕ)) (ms : List Client) → AllZip C known ms → HasPlaces found (names_of ms) →
-      PartsStand told count since firsts world readers merger known found clock down (record node { clients = ms })
+      PartsStand told count since firsts world readers merger deleter known found clock down (record node { clients = ms })
   known_parts known found ms zip has =
       record {
         world_stands = p.world_stands;
@@ -231,6 +245,9 @@ module _ {L : Type 0} (told : L → Option Log) (count : L → ℕ) (since : L �
         apart = p.apart;
         merging = p.merging;
         merger_apart = p.merger_apart;
+        deleting = p.deleting;
+        deleter_apart = p.deleter_apart;
+        workers_apart = p.workers_apart;
         clients = zip;
         placed = has;
         later = p.later;
@@ -238,16 +255,16 @@ module _ {L : Type 0} (told : L → Option Log) (count : L → ℕ) (since : L �
 
   -- a client that was known stays as it was
   pub same_parts : (searchers' : List Searcher) (places' : List (List ℕ × ℕ)) (ms : List Client) → ms ≡ node.clients →
-      PartsStand told count since firsts world readers merger searchers' places' clock down (record node { clients = ms }) →
-      PartsStand told count since firsts world readers merger searchers' places' clock down node
+      PartsStand told count since firsts world readers merger deleter searchers' places' clock down (record node { clients = ms }) →
+      PartsStand told count since firsts world readers merger deleter searchers' places' clock down node
   same_parts searchers' places' ms e q =
-      subst (λ (ns : List Client). PartsStand told count since firsts world readers merger searchers' places' clock down (record node { clients = ns })) e q
+      subst (λ (ns : List Client). PartsStand told count since firsts world readers merger deleter searchers' places' clock down (record node { clients = ns })) e q
 
   -- it took a step
   pub searched_parts : (name : List ℕ) (known : List Searcher) (found : List (List ℕ × ℕ)) (m : Client) (place : ℕ) (new : Searcher) (world' : Keeping) (result : Result SearchStep AllocError) →
       m.name ≡ name → AllZip C known (with_client m node.clients) → HasPlaces found (names_of (with_client m node.clients)) → NamedAt name known place →
       (s : SearchesAlone result new world' m node.core node.log) → s.later.name ≡ name →
-      PartsStand told count since firsts world' readers merger (slice_set known place new) found clock down (record (keep_client s.later node) { core = s.after })
+      PartsStand told count since firsts world' readers merger deleter (slice_set known place new) found clock down (record (keep_client s.later node) { core = s.after })
   searched_parts name known found m place new world' result em zip has at s el =
       record {
         world_stands = s.world_stands;
@@ -259,6 +276,9 @@ module _ {L : Type 0} (told : L → Option Log) (count : L → ℕ) (since : L �
         apart = p.apart;
         merging = worker_goes_on Merging node.core s.after node.log None world' merger node.merger s.world_stands s.goes_on (λ n held. tt) p.merging;
         merger_apart = p.merger_apart;
+        deleting = worker_goes_on Deleting node.core s.after node.log None world' deleter node.deleter s.world_stands s.goes_on (λ n held. tt) p.deleting;
+        deleter_apart = p.deleter_apart;
+        workers_apart = p.workers_apart;
         clients = subst (λ (l : List Client). AllZip (λ searcher client. SearcherStands searcher client s.after node.log) (slice_set known place new) l)
             (with_with s.later m node.clients (el ∙ sym em))
             (named_set node.core s.after node.log name known (with_client m node.clients) place new s.later
@@ -267,51 +287,10 @@ module _ {L : Type 0} (told : L → Option Log) (count : L → ℕ) (since : L �
         later = p.later;
       }
 
-  -- ---- the merger changes
-
-  -- it is made idle
-  pub unmerged_parts : (merger' : WorkerPlace) → works.PlaceStands Merging node.log node.core merger' workers.idle →
-      PartsStand told count since firsts world readers merger' searchers places clock down (with_merger workers.idle node)
-  unmerged_parts merger' stands =
-      record {
-        world_stands = p.world_stands;
-        is_log = p.is_log;
-        moment = p.moment;
-        down = p.down;
-        indexers = p.indexers;
-        apart = p.apart;
-        merging = stands;
-        merger_apart = idle_other node.indexers;
-        clients = p.clients;
-        placed = p.placed;
-        later = p.later;
-      }
-
-  -- it took a step
-  pub merged_parts : (merger' : WorkerPlace) (world' : Keeping) (result : Result Worked AllocError) → (s : WorksAlone Merging result node.merger node.core node.log merger' world') →
-      PartsStand told count since firsts world' readers merger' searchers places clock down (record (with_merger s.after node) { core = s.behind })
-  merged_parts merger' world' result s =
-      record {
-        world_stands = s.world_stands;
-        is_log = p.is_log;
-        moment = p.moment ∙ sym (worker_moves s.luck node.log node.core Merging node.merger).ticks ∙ ap (λ step. step.core.clock) s.did;
-        down = p.down;
-        indexers = zip_both R (λ reader indexer. IndexerStands told count reader indexer s.behind node.log) (HoldsOther node.merger) readers node.indexers p.indexers p.merger_apart
-            (λ reader indexer stands off. indexer_stays told count reader indexer node.core s.behind node.log (workers.number_held node.merger) s.goes_on (other_of_worker node.merger indexer off) stands);
-        apart = p.apart;
-        merging = s.stands;
-        merger_apart = all_both R (HoldsOther node.merger) (HoldsOther s.after) readers node.indexers p.indexers p.merger_apart
-            (λ reader indexer stands off n at_after at_indexer. off n (s.apart n (staged_of told count reader indexer node.core node.log n stands at_indexer) at_after) at_indexer);
-        clients = zip_weaker C (λ searcher client. SearcherStands searcher client s.behind node.log) searchers node.clients
-            (λ searcher client w. searcher_goes_on (IsOther (workers.number_held node.merger)) searcher client node.core s.behind node.log s.goes_on w) p.clients;
-        placed = p.placed;
-        later = p.later;
-      }
-
   -- ---- the collector took a step
 
   pub collected_parts : (world' : Keeping) (result : Result Collected AllocError) → (s : CollectsAlone result world' node.core node.log) →
-      PartsStand told count since firsts world' readers merger searchers places clock down (record node { core = s.after })
+      PartsStand told count since firsts world' readers merger deleter searchers places clock down (record node { core = s.after })
   collected_parts world' result s =
       record {
         world_stands = s.world_stands;
@@ -323,6 +302,9 @@ module _ {L : Type 0} (told : L → Option Log) (count : L → ℕ) (since : L �
         apart = p.apart;
         merging = worker_goes_on Merging node.core s.after node.log None world' merger node.merger s.world_stands s.goes_on (λ n held. tt) p.merging;
         merger_apart = p.merger_apart;
+        deleting = worker_goes_on Deleting node.core s.after node.log None world' deleter node.deleter s.world_stands s.goes_on (λ n held. tt) p.deleting;
+        deleter_apart = p.deleter_apart;
+        workers_apart = p.workers_apart;
         clients = zip_weaker C (λ searcher client. SearcherStands searcher client s.after node.log) searchers node.clients
             (λ searcher client w. searcher_goes_on (IsOther None) searcher client node.core s.after node.log s.goes_on w) p.clients;
         placed = p.placed;
@@ -332,7 +314,7 @@ module _ {L : Type 0} (told : L → Option Log) (count : L → ℕ) (since : L �
   -- ---- the clock is set
 
   pub clock_parts : (moment : ℕ) (world' : Keeping) → WorldStands world' (record (node.core) { clock = moment }) node.log →
-      PartsStand told count since firsts world' readers merger searchers places moment down (record node { core = record (node.core) { clock = moment } })
+      PartsStand told count since firsts world' readers merger deleter searchers places moment down (record node { core = record (node.core) { clock = moment } })
   clock_parts moment world' stands =
       record {
         world_stands = stands;
@@ -345,6 +327,9 @@ module _ {L : Type 0} (told : L → Option Log) (count : L → ℕ) (since : L �
         apart = p.apart;
         merging = worker_goes_on Merging node.core (record (node.core) { clock = moment }) node.log None world' merger node.merger stands (clock_on node.core moment) (λ n held. tt) p.merging;
         merger_apart = p.merger_apart;
+        deleting = worker_goes_on Deleting node.core (record (node.core) { clock = moment }) node.log None world' deleter node.deleter stands (clock_on node.core moment) (λ n held. tt) p.deleting;
+        deleter_apart = p.deleter_apart;
+        workers_apart = p.workers_apart;
         clients = zip_weaker C (λ searcher client. SearcherStands searcher client (record (node.core) { clock = moment }) node.log) searchers node.clients
             (λ searcher client w. searcher_goes_on (IsOther None) searcher client node.core (record (node.core) { clock = moment }) node.log (clock_on node.core moment) w) p.clients;
         placed = p.placed;
@@ -353,13 +338,13 @@ module _ {L : Type 0} (told : L → Option Log) (count : L → ℕ) (since : L �
 
   -- ---- all stop
 
-  pub stopped_parts : (readers' : List (Reader L)) (merger' : WorkerPlace) (searchers' : List Searcher) (world' : Keeping) (down' : Bool) (core : Core) → core.clock ≡ node.core.clock →
+  pub stopped_parts : (readers' : List (Reader L)) (merger' deleter' : WorkerPlace) (searchers' : List Searcher) (world' : Keeping) (down' : Bool) (core : Core) → core.clock ≡ node.core.clock →
       WorldStands world' core node.log → map (λ reader. reader.log) readers' ≡ map (λ reader. reader.log) readers →
       AllZip (λ reader indexer. IndexerStands told count reader indexer core node.log) readers' (map made_idle node.indexers) →
-      works.PlaceStands Merging node.log core merger' workers.idle →
+      works.PlaceStands Merging node.log core merger' workers.idle → works.PlaceStands Deleting node.log core deleter' workers.idle →
       AllZip (λ searcher client. SearcherStands searcher client core node.log) searchers' (map without_request node.clients) →
-      PartsStand told count since firsts world' readers' merger' searchers' places clock down' (record (restarted node) { core = core; down = down' })
-  stopped_parts readers' merger' searchers' world' down' core same stands logs indexers merging clients =
+      PartsStand told count since firsts world' readers' merger' deleter' searchers' places clock down' (record (restarted node) { core = core; down = down' })
+  stopped_parts readers' merger' deleter' searchers' world' down' core same stands logs indexers merging deleting clients =
       record {
         world_stands = stands;
         is_log = p.is_log;
@@ -369,6 +354,9 @@ module _ {L : Type 0} (told : L → Option Log) (count : L → ℕ) (since : L �
         apart = idle_all_apart node.indexers;
         merging = merging;
         merger_apart = idle_other (map made_idle node.indexers);
+        deleting = deleting;
+        deleter_apart = idle_other (map made_idle node.indexers);
+        workers_apart = idle_work_apart workers.idle;
         clients = clients;
         placed = subst (HasPlaces places) (sym (names_without node.clients)) p.placed;
         later = subst (λ (l : List L). AllZip since firsts l) (sym logs) p.later;
@@ -432,16 +420,6 @@ client_turns node name new world' result up s =
     ap (λ b. client_turn_by b luck name node) up
     ∙ ap (client_stepped name node) s.did
 
-abbrev pub working_alone : {aim : Aim} {result : Result Worked AllocError} {worker : Worker} {core : Core} {log : Log} {kept : WorkerPlace} {world : Keeping} →
-    WorksAlone aim result worker core log kept world → Luck
-working_alone s = record { log = calm.log; world = s.luck.world; more = []; ends = []; inner = s.luck.short; early = false; short = false }
-
-pub merger_turns : (node : Node) (kept : WorkerPlace) (world' : Keeping) (result : Result Worked AllocError) → node.down ≡ false →
-    (s : WorksAlone Merging result node.merger node.core node.log kept world') →
-    full_turn (working_alone s) node StepMerger ≡ record { said = said_by_worker Merging s.outcome; node = record (with_merger s.after node) { core = s.behind } }
-merger_turns node kept world' result up s =
-    ap (λ b. worker_turn_by b Merging node.merger with_merger (working_alone s) node) up ∙ ap (worker_stepped Merging with_merger node) s.did
-
 abbrev pub collecting_alone : {result : Result Collected AllocError} {world : Keeping} {core : Core} {log : Log} → CollectsAlone result world core log → Luck
 collecting_alone s = record { log = calm.log; world = s.luck.world; more = s.luck.more; ends = s.luck.ends; inner = s.luck.short; early = false; short = false }
 
@@ -479,6 +457,11 @@ full_same luck early short node StepMerger = by node.down where
   by true = refl
   by false = refl
 full_same luck early short node RestartMerger = refl
+full_same luck early short node StepDeleter = by node.down where
+  by : (b : Bool) → worker_turn_by b Deleting node.deleter with_deleter (record luck { early = early; short = short }) node ≡ worker_turn_by b Deleting node.deleter with_deleter luck node
+  by true = refl
+  by false = refl
+full_same luck early short node RestartDeleter = refl
 full_same luck early short node StepCollector = by node.down where
   by : (b : Bool) → collector_turn_by b (record luck { early = early; short = short }) node ≡ collector_turn_by b luck node
   by true = refl
@@ -500,7 +483,7 @@ module _ {S L : Type 0} (told : L → Option Log) (count : L → ℕ) (since : L
         last = d.2;
         turn = turn;
         says = d.4;
-        tells = stands_own told count node old.gate.world old.indexers.items old.merger.place p.world_stands p.indexers p.merging line (Some d.1) d.2 turn;
+        tells = stands_own told count node old.gate.world old.indexers.items old.merger.place old.deleter.place p.world_stands p.indexers p.merging p.deleting line (Some d.1) d.2 turn;
         stands = d.5;
       }
     where
@@ -626,10 +609,10 @@ all_without_over (s ∷ searchers) (c ∷ clients) core after log keeps z =
 
 -- a stopped node whose world was loaded, or stayed
 pub loaded_parts : {L : Type 0} (told : L → Option Log) (count : L → ℕ) (since : L → L → Type 0) (firsts : List L) (world world' : Keeping) (readers : List (Reader L))
-    (merger : WorkerPlace) (searchers : List Searcher) (places : List (List ℕ × ℕ)) (clock : ℕ) (down kept_down down' : Bool) (node : Node) (after : Core) (fate : Fate) (answer : Result ⊤ Unread) →
-    PartsStand told count since firsts world readers merger searchers places clock down (stopped node.core node) → loaded fate node.core ≡ gives answer after → KeepsBut None node.core after →
-    WorldStands world' after node.log → kept_down ≡ down' → PartsStand told count since firsts world' readers merger searchers places clock kept_down (record (restarted node) { core = after; down = down' })
-loaded_parts told count since firsts world world' readers merger searchers places clock down kept_down down' node after fate answer p did keeps stands same =
+    (merger deleter : WorkerPlace) (searchers : List Searcher) (places : List (List ℕ × ℕ)) (clock : ℕ) (down kept_down down' : Bool) (node : Node) (after : Core) (fate : Fate) (answer : Result ⊤ Unread) →
+    PartsStand told count since firsts world readers merger deleter searchers places clock down (stopped node.core node) → loaded fate node.core ≡ gives answer after → KeepsBut None node.core after →
+    WorldStands world' after node.log → kept_down ≡ down' → PartsStand told count since firsts world' readers merger deleter searchers places clock kept_down (record (restarted node) { core = after; down = down' })
+loaded_parts told count since firsts world world' readers merger deleter searchers places clock down kept_down down' node after fate answer p did keeps stands same =
     record {
       world_stands = stands;
       is_log = p.is_log;
@@ -639,6 +622,9 @@ loaded_parts told count since firsts world world' readers merger searchers place
       apart = p.apart;
       merging = idle_worker_over Merging node.log node.core after merger p.merging;
       merger_apart = p.merger_apart;
+      deleting = idle_worker_over Deleting node.log node.core after deleter p.deleting;
+      deleter_apart = p.deleter_apart;
+      workers_apart = p.workers_apart;
       clients = all_without_over searchers node.clients node.core after node.log keeps p.clients;
       placed = p.placed;
       later = p.later;

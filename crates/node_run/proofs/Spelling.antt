@@ -13,7 +13,7 @@ use Rattle.byte_fields.specs.ClientName.{IsClientName}
 use Rattle.byte_fields.specs.ClientName as clients
 use Rattle.indexing_run.specs.Outcomes.{words}
 use Rattle.node_run.specs.Lines.{line_text, IsWellFormed, Spells}
-use Rattle.node_run.specs.Node.{Line, At, Assign, StepIndexer, RestartIndexer, RestartClient, StepMerger, RestartMerger, StepCollector, RestartCollector, RestartNode, Open, StepClient}
+use Rattle.node_run.specs.Node.{Line, At, Assign, StepIndexer, RestartIndexer, RestartClient, StepMerger, RestartMerger, StepDeleter, RestartDeleter, StepCollector, RestartCollector, RestartNode, Open, StepClient}
 
 -- ---- words without a blank
 
@@ -101,6 +101,8 @@ data Shape : Type 0 where
   restart_client_line : Shape
   merger_line : Shape
   restart_merger_line : Shape
+  deleter_line : Shape
+  restart_deleter_line : Shape
   collector_line : Shape
   restart_collector_line : Shape
   restart_node_line : Shape
@@ -119,9 +121,10 @@ shape_in text =
     else (if byte_at 0 text == 114
     then (if byte_at 8 text == 105 then restart_indexer_line
     else (if byte_at 9 text == 108 then restart_client_line
-    else (if byte_at 8 text == 99 then restart_collector_line else (if byte_at 8 text == 109 then restart_merger_line else restart_node_line))))
+    else (if byte_at 8 text == 99 then restart_collector_line else (if byte_at 8 text == 109 then restart_merger_line else (if byte_at 8 text == 100 then restart_deleter_line else restart_node_line)))))
     else (if byte_at 0 text == 109 then merger_line
-    else (if byte_at 1 text == 111 then collector_line else client_line))))
+    else (if byte_at 0 text == 100 then deleter_line
+    else (if byte_at 1 text == 111 then collector_line else client_line)))))
 
 abbrev assign_of : List (List ℕ) → Line
 assign_of [] = RestartNode
@@ -140,6 +143,8 @@ line_by restart_indexer_line text = RestartIndexer (digits_value 10 (drop 16 tex
 line_by restart_client_line text = RestartClient (drop 15 text)
 line_by merger_line text = StepMerger
 line_by restart_merger_line text = RestartMerger
+line_by deleter_line text = StepDeleter
+line_by restart_deleter_line text = RestartDeleter
 line_by collector_line text = StepCollector
 line_by restart_collector_line text = RestartCollector
 line_by restart_node_line text = RestartNode
@@ -158,6 +163,8 @@ line_in-text (RestartIndexer i) f = ap RestartIndexer (decimal-value i f)
 line_in-text (RestartClient name) f = refl
 line_in-text StepMerger f = refl
 line_in-text RestartMerger f = refl
+line_in-text StepDeleter f = refl
+line_in-text RestartDeleter f = refl
 line_in-text StepCollector f = refl
 line_in-text RestartCollector f = refl
 line_in-text RestartNode f = refl

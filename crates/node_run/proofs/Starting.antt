@@ -10,10 +10,10 @@ use Rattle.indexing_run.specs.Standing.{IndexerStands}
 use Rattle.indexing_run.specs.declared.indexer.Indexer.{Indexer as Reader}
 use Rattle.upkeep_run.specs.Places.{idle}
 use Rattle.upkeep_run.specs.Standing.{PlaceStands}
-use Rattle.upkeep_run.specs.declared.work.Aim.TheVariants.{Merging}
+use Rattle.upkeep_run.specs.declared.work.Aim.TheVariants.{Deleting, Merging}
 use Rattle.upkeep_run.specs.declared.work.Place.{Place as WorkerPlace}
 use Rattle.node_run.specs.Turns.{reader_of}
-use Rattle.node_run.proofs.Workers.{idle_other}
+use Rattle.node_run.proofs.Workers.{idle_other, idle_work_apart}
 use Rattle.node_run.specs.Standing.{IsFresh, PartsStand, fresh_node, HoldApart, AllApart}
 
 none_some : (n : ℕ) → None ≡ Some n → ⊥
@@ -42,10 +42,10 @@ module _ {L : Type 0} (told : L → Option Log) (count : L → ℕ) (since : L �
   fresh_later (l ∷ logs) [] z = absurd z
   fresh_later (l ∷ logs) (r ∷ readers) z = (subst (since l) (sym z.0.0) (itself l), fresh_later logs readers z.1)
 
-  pub fresh_parts : (logs : List L) (readers : List (Reader L)) (merger : WorkerPlace) (world : Keeping) (core : Core) (log : Log) → AllZip (IsFresh told count) logs readers →
-      PlaceStands Merging log core merger idle → WorldStands world core log → core.clock ≡ 0 → IsLog log → All (λ l. told l ≡ Some log) logs →
-      PartsStand told count since logs world readers merger [] [] 0 false (fresh_node core log (map count logs))
-  fresh_parts logs readers merger world core log z merging w clock is h =
+  pub fresh_parts : (logs : List L) (readers : List (Reader L)) (merger deleter : WorkerPlace) (world : Keeping) (core : Core) (log : Log) → AllZip (IsFresh told count) logs readers →
+      PlaceStands Merging log core merger idle → PlaceStands Deleting log core deleter idle → WorldStands world core log → core.clock ≡ 0 → IsLog log → All (λ l. told l ≡ Some log) logs →
+      PartsStand told count since logs world readers merger deleter [] [] 0 false (fresh_node core log (map count logs))
+  fresh_parts logs readers merger deleter world core log z merging deleting w clock is h =
       record {
         world_stands = w;
         is_log = is;
@@ -55,6 +55,9 @@ module _ {L : Type 0} (told : L → Option Log) (count : L → ℕ) (since : L �
         apart = fresh_apart (map count logs);
         merging = merging;
         merger_apart = idle_other (map reader_of (map count logs));
+        deleting = deleting;
+        deleter_apart = idle_other (map reader_of (map count logs));
+        workers_apart = idle_work_apart idle;
         clients = tt;
         placed = λ name. refl;
         later = fresh_later logs readers z;

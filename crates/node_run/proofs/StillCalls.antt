@@ -22,8 +22,8 @@ use Rattle.upkeep_run.specs.Steps as working
 use Rattle.upkeep_run.specs.declared.work.Aim.{Aim}
 use Rattle.upkeep_run.specs.declared.work.Aim.TheVariants.{Deleting, Merging}
 use Rattle.node_run.specs.Calm.{IsStill}
-use Rattle.node_run.specs.Node.{Node, Line, At, Assign, StepIndexer, RestartIndexer, RestartClient, StepMerger, RestartMerger, StepCollector, RestartCollector, RestartNode, Open, StepClient}
-use Rattle.node_run.specs.Turns.{calm, indexer_at, client_named, indexer_turn_by, client_turn_by, worker_turn_by, with_merger, collector_turn_by, turn}
+use Rattle.node_run.specs.Node.{Node, Line, At, Assign, StepIndexer, RestartIndexer, RestartClient, StepMerger, RestartMerger, StepDeleter, RestartDeleter, StepCollector, RestartCollector, RestartNode, Open, StepClient}
+use Rattle.node_run.specs.Turns.{calm, indexer_at, client_named, indexer_turn_by, client_turn_by, worker_turn_by, with_deleter, with_merger, collector_turn_by, turn}
 use Rattle.node_run.proofs.Calming.{asked_still, calm_risen, fetched_calm}
 use Rattle.node_run.proofs.CalmSteps.{calm_indexing, calm_searching, load_still}
 use Rattle.node_run.proofs.CollectorCalms.{collector_still}
@@ -245,6 +245,8 @@ module _ (node : Node) (s : IsStill node.core) where
   turn_still (RestartClient name) = s
   turn_still StepMerger = worker_turn_still node.down Merging node.merger with_merger
   turn_still RestartMerger = s
+  turn_still StepDeleter = worker_turn_still node.down Deleting node.deleter with_deleter
+  turn_still RestartDeleter = s
   turn_still StepCollector = collector_turn_still node.down
   turn_still RestartCollector = s
   turn_still RestartNode =

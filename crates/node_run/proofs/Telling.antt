@@ -39,11 +39,11 @@ use Rattle.upkeep_run.specs.Outcomes.{UpkeepOutcome}
 use Rattle.upkeep_run.specs.Places.{Place as Worker}
 use Rattle.upkeep_run.specs.Standing as works
 use Rattle.upkeep_run.specs.declared.work.Aim.{Aim}
-use Rattle.upkeep_run.specs.declared.work.Aim.TheVariants.{Merging}
+use Rattle.upkeep_run.specs.declared.work.Aim.TheVariants.{Deleting, Merging}
 use Rattle.upkeep_run.specs.declared.work.Place.{Place as WorkerPlace}
-use Rattle.node_run.specs.Node.{Node, Line, At, Assign, StepIndexer, RestartIndexer, RestartClient, StepMerger, RestartMerger, StepCollector, RestartCollector, RestartNode, Open, StepClient, Outcome}
+use Rattle.node_run.specs.Node.{Node, Line, At, Assign, StepIndexer, RestartIndexer, RestartClient, StepMerger, RestartMerger, StepDeleter, RestartDeleter, StepCollector, RestartCollector, RestartNode, Open, StepClient, Outcome}
 use Rattle.node_run.specs.Telling.{IndexerMayTell, IsOfText, SearchMayTell, LineMayTell}
-use Rattle.node_run.specs.Turns.{Luck, Turned, indexer_or, indexer_at, indexing_luck, searching_luck, said_by_indexer, said_by_client, assign_at, indexer_turn_by, client_turn_by, client_named, working_luck, said_by_worker, worker_turn_by, with_merger, collecting_luck, collector_turn_by, said_by_collector, open_by, restart_by, full_turn, or_quiet, turn_by, Turn}
+use Rattle.node_run.specs.Turns.{Luck, Turned, indexer_or, indexer_at, indexing_luck, searching_luck, said_by_indexer, said_by_client, assign_at, indexer_turn_by, client_turn_by, client_named, working_luck, said_by_worker, worker_turn_by, with_deleter, with_merger, collecting_luck, collector_turn_by, said_by_collector, open_by, restart_by, full_turn, or_quiet, turn_by, Turn}
 use Rattle.node_run.proofs.Refusals.{OfText, asked_of_text, text_may, answer_may}
 use Rattle.node_run.proofs.CallTells.{AreLow, IsStoreTrouble, IsOwnTrouble, IfErr, appended_own, file_own, copied_own, asked_and_looked_own, asked_own, IsFetchTrouble, each_own, IsStoreUnread, load_own, IsFree, store_not_foreign}
 use Rattle.node_run.proofs.CollectorTells.{Tells, collector_tells}
@@ -251,6 +251,7 @@ record IsOwn (node : Node) : Type 0 where
   lawful : IsLawful node.core
   free : AllByRecursion (λ indexer. PlaceIsFree node.core indexer.place) node.indexers
   merger_free : WorkerIsFree node.core node.merger
+  deleter_free : WorkerIsFree node.core node.deleter
 
 free_or : (core : Core) (o : Option Indexer) → ((indexer : Indexer) → o ≡ Some indexer → PlaceIsFree core indexer.place) → PlaceIsFree core (indexer_or o).place
 free_or core None f = tt
@@ -294,6 +295,8 @@ module _ (luck : Luck) (node : Node) (own : IsOwn node) where
   full_tells (RestartClient name) = tt
   full_tells StepMerger = worker_turn_tells node.down Merging node.merger with_merger own.merger_free
   full_tells RestartMerger = tt
+  full_tells StepDeleter = worker_turn_tells node.down Deleting node.deleter with_deleter own.deleter_free
+  full_tells RestartDeleter = tt
   full_tells StepCollector = collector_turn_tells node.down
   full_tells RestartCollector = tt
   full_tells RestartNode =
@@ -330,14 +333,16 @@ module _ {L : Type 0} (told : L → Option Log) (count : L → ℕ) (core : Core
   readers_free (reader ∷ readers) [] z = absurd z
   readers_free (reader ∷ readers) (indexer ∷ indexers) z = (placed_free log core reader.place indexer.place z.0.place, readers_free readers indexers z.1)
 
-pub stands_own : {L : Type 0} (told : L → Option Log) (count : L → ℕ) (node : Node) (world : Keeping) (readers : List (Reader L)) (merger : WorkerPlace) →
+pub stands_own : {L : Type 0} (told : L → Option Log) (count : L → ℕ) (node : Node) (world : Keeping) (readers : List (Reader L)) (merger deleter : WorkerPlace) →
     WorldStands world node.core node.log → AllZip (λ reader indexer. IndexerStands told count reader indexer node.core node.log) readers node.indexers → works.PlaceStands Merging node.log node.core merger node.merger →
+    works.PlaceStands Deleting node.log node.core deleter node.deleter →
     (line : Line) (said : Option Outcome) (last : Node) → Turn node line said last → LineMayTell said
-stands_own told count node world readers merger stands indexers merging line said last turn =
+stands_own told count node world readers merger deleter stands indexers merging deleting line said last turn =
     turn_tells node line said last
     (record {
       lawful = world_lawful world node.core node.log stands;
       free = readers_free told count node.core node.log readers node.indexers indexers;
       merger_free = worker_free Merging node.log node.core merger node.merger merging;
+      deleter_free = worker_free Deleting node.log node.core deleter node.deleter deleting;
     })
     turn

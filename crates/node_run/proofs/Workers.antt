@@ -1,4 +1,4 @@
--- What a worker holds beside the indexers: where it stays, and that no indexer holds its number.
+-- What a worker holds beside the indexers and another worker: where it stays, and that none of them holds its number.
 use Rattle.std.proofs.Common.{◌≡◌, ℕ, ◌<◌, List, [], ◌∷◌, length, true, refl, sym, ap, ◌∙◌, subst}
 use Rattle.std.specs.List.{AllByRecursion}
 use Rattle.std.specs.Prelude.{Option, Some, None, Ok, slice_set}
@@ -18,7 +18,7 @@ use Rattle.upkeep_run.specs.declared.work.Aim.{Aim}
 use Rattle.upkeep_run.specs.declared.work.Place.{Place as HeldPlace}
 use Rattle.upkeep_run.specs.declared.work.Place.TheVariants as places
 use Rattle.upkeep_run.proofs.Stays.{worker_stays}
-use Rattle.node_run.specs.Standing.{HoldsOther}
+use Rattle.node_run.specs.Standing.{HoldsOther, WorkApart}
 use Rattle.node_run.specs.Turns.{indexer_at, made_idle}
 use Rattle.node_run.proofs.Zips.{all_at, all_set}
 
@@ -88,5 +88,21 @@ pub other_of_worker : (worker : Place) (indexer : Indexer) → HoldsOther worker
 other_of_worker worker indexer apart n held = by (number_held worker) refl
   where
     by : (o : Option ℕ) → number_held worker ≡ o → IsOther o n
+    by None e = tt
+    by (Some m) e = λ same. apart n (e ∙ ap Some (sym same)) held
+
+-- ---- two workers
+
+pub work_apart_back : (a b : Place) → WorkApart a b → WorkApart b a
+work_apart_back a b apart n at_b at_a = apart n at_a at_b
+
+pub idle_work_apart : (b : Place) → WorkApart idle b
+idle_work_apart b n at_idle at_b = none_some n at_idle
+
+-- each number of the second is another than the first one's
+pub other_of_work : (a b : Place) → WorkApart a b → (n : ℕ) → number_held b ≡ Some n → IsOther (number_held a) n
+other_of_work a b apart n held = by (number_held a) refl
+  where
+    by : (o : Option ℕ) → number_held a ≡ o → IsOther o n
     by None e = tt
     by (Some m) e = λ same. apart n (e ∙ ap Some (sym same)) held

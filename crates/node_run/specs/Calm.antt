@@ -2,7 +2,7 @@
 use Rattle.std.specs.Prelude.{◌≡◌, ℕ, ◌<◌, false, List, [], map, None}
 use Rattle.index_world.specs.Core.{Core, last_count}
 use Rattle.indexing_run.specs.Places.{Indexer}
-use Rattle.node_run.specs.Node.{Line, At, Assign, StepIndexer, RestartIndexer, RestartClient, StepMerger, RestartMerger, StepCollector, RestartCollector, RestartNode, Open, StepClient}
+use Rattle.node_run.specs.Node.{Line, At, Assign, StepIndexer, RestartIndexer, RestartClient, StepMerger, RestartMerger, StepDeleter, RestartDeleter, StepCollector, RestartCollector, RestartNode, Open, StepClient}
 
 -- nothing is late, stands unread or is unsure, and the count doesn't stand at its end
 pub record IsStill (core : Core) : Type 0 where
@@ -24,6 +24,8 @@ IsOfThese count (RestartIndexer indexer) = indexer < count
 IsOfThese count (RestartClient client) = Unit {0}
 IsOfThese count StepMerger = Unit {0}
 IsOfThese count RestartMerger = Unit {0}
+IsOfThese count StepDeleter = Unit {0}
+IsOfThese count RestartDeleter = Unit {0}
 IsOfThese count StepCollector = Unit {0}
 IsOfThese count RestartCollector = Unit {0}
 IsOfThese count RestartNode = Unit {0}

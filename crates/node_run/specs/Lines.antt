@@ -11,7 +11,7 @@ use Rattle.split_collector.specs.Outcomes.{outcome_words as collector_words}
 use Rattle.upkeep_run.specs.Outcomes.{outcome_words as upkeep_words}
 use Rattle.upkeep_run.specs.declared.work.Aim.{Aim}
 use Rattle.upkeep_run.specs.declared.work.Aim.TheVariants.{Merging, Deleting}
-use Rattle.node_run.specs.Node.{Line, At, Assign, StepIndexer, RestartIndexer, RestartClient, StepMerger, RestartMerger, StepCollector, RestartCollector, RestartNode, Open, StepClient, NodeFault, world_fault, no_index, Outcome, at_said, assigned, indexer_busy, indexer_said, indexer_down, indexer_restarted, client_restarted, worker_said, worker_down, worker_restarted, collector_said, collector_down, collector_restarted, node_restarted, node_failed, request_opened, request_busy, client_said, client_down}
+use Rattle.node_run.specs.Node.{Line, At, Assign, StepIndexer, RestartIndexer, RestartClient, StepMerger, RestartMerger, StepDeleter, RestartDeleter, StepCollector, RestartCollector, RestartNode, Open, StepClient, NodeFault, world_fault, no_index, Outcome, at_said, assigned, indexer_busy, indexer_said, indexer_down, indexer_restarted, client_restarted, worker_said, worker_down, worker_restarted, collector_said, collector_down, collector_restarted, node_restarted, node_failed, request_opened, request_busy, client_said, client_down}
 
 abbrev pub line_text : Line → List ℕ
 line_text (At moment) = words (codes "at" ∷ decimal moment ∷ [])
@@ -21,6 +21,8 @@ line_text (RestartIndexer indexer) = words (codes "restart" ∷ codes "indexer" 
 line_text (RestartClient client) = words (codes "restart" ∷ codes "client" ∷ client ∷ [])
 line_text StepMerger = words (codes "merger" ∷ [])
 line_text RestartMerger = words (codes "restart" ∷ codes "merger" ∷ [])
+line_text StepDeleter = words (codes "deleter" ∷ [])
+line_text RestartDeleter = words (codes "restart" ∷ codes "deleter" ∷ [])
 line_text StepCollector = words (codes "collector" ∷ [])
 line_text RestartCollector = words (codes "restart" ∷ codes "collector" ∷ [])
 line_text RestartNode = words (codes "restart" ∷ codes "node" ∷ [])
@@ -43,6 +45,8 @@ IsWellFormed (RestartIndexer indexer) = indexer < 2 ^ 64
 IsWellFormed (RestartClient client) = IsClientName client
 IsWellFormed StepMerger = Unit {0}
 IsWellFormed RestartMerger = Unit {0}
+IsWellFormed StepDeleter = Unit {0}
+IsWellFormed RestartDeleter = Unit {0}
 IsWellFormed StepCollector = Unit {0}
 IsWellFormed RestartCollector = Unit {0}
 IsWellFormed RestartNode = Unit {0}

@@ -18,6 +18,7 @@ pub record Node : Type 0 where
   pub down : Bool
   pub indexers : List Indexer
   pub merger : Worker
+  pub deleter : Worker
   pub clients : List Client
 
 pub data Line : Type 0 where
@@ -28,6 +29,8 @@ pub data Line : Type 0 where
   RestartClient : (client : List ℕ) → Line
   StepMerger : Line
   RestartMerger : Line
+  StepDeleter : Line
+  RestartDeleter : Line
   StepCollector : Line
   RestartCollector : Line
   RestartNode : Line

@@ -31,11 +31,11 @@ use Rattle.upkeep_run.specs.Ending as worker_ends
 use Rattle.upkeep_run.specs.Standing.{said_words as worked_words}
 use Rattle.upkeep_run.specs.declared.outcome.UpkeepOutcome.{UpkeepOutcome as Worked}
 use Rattle.upkeep_run.specs.declared.work.Aim.{Aim}
-use Rattle.upkeep_run.specs.declared.work.Aim.TheVariants.{Merging}
+use Rattle.upkeep_run.specs.declared.work.Aim.TheVariants.{Deleting, Merging}
 use Rattle.upkeep_run.specs.declared.work.Place.{Place as WorkerPlace}
 use Rattle.node_run.specs.declared.drive.DriveNode.{DriveNode}
 use Rattle.node_run.specs.Lines.{outcome_text, worker_word}
-use Rattle.node_run.specs.Node.{Line, At, Assign, StepIndexer, RestartIndexer, RestartClient, StepMerger, RestartMerger, StepCollector, RestartCollector, RestartNode, Open, StepClient, at_said, assigned, indexer_busy, indexer_down, indexer_restarted, client_restarted, worker_down, worker_restarted, collector_down, collector_restarted, node_restarted, request_opened, request_busy, client_said, client_down}
+use Rattle.node_run.specs.Node.{Line, At, Assign, StepIndexer, RestartIndexer, RestartClient, StepMerger, RestartMerger, StepDeleter, RestartDeleter, StepCollector, RestartCollector, RestartNode, Open, StepClient, at_said, assigned, indexer_busy, indexer_down, indexer_restarted, client_restarted, worker_down, worker_restarted, collector_down, collector_restarted, node_restarted, request_opened, request_busy, client_said, client_down}
 
 -- ---- a world through which one actor acts after the other
 
@@ -94,6 +94,10 @@ pub record PrintsIndexer {L : Type 0} (tells : L → Option Log) (count : L → 
 abbrev pub MergesAlone : WorkerPlace → Result Worked AllocError → WorkerPlace → Keeping → Keeping → Type 0
 MergesAlone before result after old new = worker_ends.EndsStep (λ (world : Keeping). world.told) config_kept (λ (was : Keeping) call (now : Keeping). IsAnswer call was now) before result after old new
 
+-- and so a delete worker's, by the tasks that the world keeps
+abbrev pub DeletesAlone : WorkerPlace → Result Worked AllocError → WorkerPlace → Keeping → Keeping → Type 0
+DeletesAlone before result after old new = worker_ends.EndsDelete (λ (world : Keeping). world.told) config_kept (λ (world : Keeping). world.meta.tasks) (λ (was : Keeping) call (now : Keeping). IsAnswer call was now) before result after old new
+
 -- the words of an outcome behind the worker's name
 abbrev pub worked_text : Aim → Worked → List ℕ
 worked_text aim outcome = words (worker_word aim ∷ worked_words outcome)
@@ -103,6 +107,12 @@ pub record PrintsMerger (before after : WorkerPlace) (old new : Keeping) (out : 
   pub outcome : Worked
   pub ends : MergesAlone before (Ok outcome) after old new
   pub printed : out ≡ worked_text Merging outcome
+
+-- The delete worker took a step, and its outcome is told.
+pub record PrintsDeleter (before after : WorkerPlace) (old new : Keeping) (out : List ℕ) : Type 0 where
+  pub outcome : Worked
+  pub ends : DeletesAlone before (Ok outcome) after old new
+  pub printed : out ≡ worked_text Deleting outcome
 
 -- ---- a step of the collector
 
@@ -153,6 +163,9 @@ PrintsLine tells count (RestartClient name) old new out = out ≡ outcome_text (
 PrintsLine tells count StepMerger old new out =
     MatchBool old.down (out ≡ outcome_text (worker_down Merging)) (PrintsMerger old.merger.place new.merger.place old.gate.world new.gate.world out)
 PrintsLine tells count RestartMerger old new out = out ≡ outcome_text (worker_restarted Merging)
+PrintsLine tells count StepDeleter old new out =
+    MatchBool old.down (out ≡ outcome_text (worker_down Deleting)) (PrintsDeleter old.deleter.place new.deleter.place old.gate.world new.gate.world out)
+PrintsLine tells count RestartDeleter old new out = out ≡ outcome_text (worker_restarted Deleting)
 PrintsLine tells count StepCollector old new out = MatchBool old.down (out ≡ outcome_text collector_down) (PrintsCollector old.gate new.gate out)
 PrintsLine tells count RestartCollector old new out = out ≡ outcome_text collector_restarted
 PrintsLine tells count RestartNode old new out = PrintsRestart old.gate.world new.gate.world new.down out

@@ -15,7 +15,7 @@ use Rattle.root_search.specs.declared.searcher.Searcher.{Searcher}
 use Rattle.upkeep_run.specs.Places.{Place as Worker}
 use Rattle.upkeep_run.specs.Places as workers
 use Rattle.upkeep_run.specs.Standing.{PlaceStands}
-use Rattle.upkeep_run.specs.declared.work.Aim.TheVariants.{Merging}
+use Rattle.upkeep_run.specs.declared.work.Aim.TheVariants.{Deleting, Merging}
 use Rattle.upkeep_run.specs.declared.work.Place.{Place as WorkerPlace}
 use Rattle.node_run.specs.declared.drive.Accepts.{Accepts}
 use Rattle.node_run.specs.declared.drive.Accepts.TheVariants as accepts
@@ -23,7 +23,7 @@ use Rattle.node_run.specs.declared.drive.DriveNode.{DriveNode}
 use Rattle.node_run.specs.declared.out_line.OutLine.{OutLine}
 use Rattle.node_run.specs.Lines.{outcome_text}
 use Rattle.node_run.specs.Named.{names_of, HasPlaces}
-use Rattle.node_run.specs.Node.{Node, Line, At, Assign, StepIndexer, RestartIndexer, RestartClient, StepMerger, RestartMerger, StepCollector, RestartCollector, RestartNode, Open, StepClient, Outcome}
+use Rattle.node_run.specs.Node.{Node, Line, At, Assign, StepIndexer, RestartIndexer, RestartClient, StepMerger, RestartMerger, StepDeleter, RestartDeleter, StepCollector, RestartCollector, RestartNode, Open, StepClient, Outcome}
 use Rattle.node_run.specs.Telling.{LineMayTell}
 use Rattle.node_run.specs.Turns.{Luck, Turn, Turned, turned, full_turn, reader_of}
 
@@ -39,9 +39,13 @@ AllApart (indexer ∷ indexers) = AllByRecursion (HoldApart indexer) indexers ×
 abbrev pub HoldsOther : Worker → Indexer → Type 0
 HoldsOther worker indexer = (number : ℕ) → workers.number_held worker ≡ Some number → number_held indexer.place ≡ Some number → ⊥
 
+-- nor do two workers hold one
+abbrev pub WorkApart : Worker → Worker → Type 0
+WorkApart a b = (number : ℕ) → workers.number_held a ≡ Some number → workers.number_held b ≡ Some number → ⊥
+
 -- The parts of a node of the code stand for this one. `firsts` are its logs as they were handed in.
 pub record PartsStand {L : Type 0} (told : L → Option Log) (count : L → ℕ) (since : L → L → Type 0) (firsts : List L)
-    (world : Keeping) (readers : List (Reader L)) (merger : WorkerPlace) (searchers : List Searcher) (places : List (List ℕ × ℕ)) (clock : ℕ) (is_down : Bool) (node : Node) : Type 0 where
+    (world : Keeping) (readers : List (Reader L)) (merger deleter : WorkerPlace) (searchers : List Searcher) (places : List (List ℕ × ℕ)) (clock : ℕ) (is_down : Bool) (node : Node) : Type 0 where
   pub world_stands : WorldStands world node.core node.log
   pub is_log : IsLog node.log
   pub moment : clock ≡ node.core.clock
@@ -50,6 +54,9 @@ pub record PartsStand {L : Type 0} (told : L → Option Log) (count : L → ℕ)
   pub apart : AllApart node.indexers
   pub merging : PlaceStands Merging node.log node.core merger node.merger
   pub merger_apart : AllByRecursion (HoldsOther node.merger) node.indexers
+  pub deleting : PlaceStands Deleting node.log node.core deleter node.deleter
+  pub deleter_apart : AllByRecursion (HoldsOther node.deleter) node.indexers
+  pub workers_apart : WorkApart node.merger node.deleter
   -- in the order in which lines named them
   pub clients : AllZip (λ searcher client. SearcherStands searcher client node.core node.log) searchers node.clients
   pub placed : HasPlaces places (names_of node.clients)
@@ -63,13 +70,13 @@ IsFresh told count log reader =
 -- a node of the code stands for this one
 abbrev pub NodeStands : {S L : Type 0} → (L → Option Log) → (L → ℕ) → (L → L → Type 0) → List L → DriveNode S L → Node → Type 0
 NodeStands {S} {L} told count since firsts drive node =
-    PartsStand told count since firsts drive.gate.world drive.indexers.items drive.merger.place drive.clients.items drive.places.entries drive.moment drive.down node
+    PartsStand told count since firsts drive.gate.world drive.indexers.items drive.merger.place drive.deleter.place drive.clients.items drive.places.entries drive.moment drive.down node
 
 -- ---- start
 
 -- a node of fresh readers over an opened world
 abbrev pub fresh_node : Core → Log → List ℕ → Node
-fresh_node core log counts = record { log = log; core = core; down = false; indexers = map reader_of counts; merger = workers.idle; clients = [] }
+fresh_node core log counts = record { log = log; core = core; down = false; indexers = map reader_of counts; merger = workers.idle; deleter = workers.idle; clients = [] }
 
 -- ---- accepts
 
@@ -95,6 +102,8 @@ accepts_of node (RestartIndexer i) = accepts_indexer i node
 accepts_of node (RestartClient name) = accepts_client name node
 accepts_of node StepMerger = accepts.Yes
 accepts_of node RestartMerger = accepts.Yes
+accepts_of node StepDeleter = accepts.Yes
+accepts_of node RestartDeleter = accepts.Yes
 accepts_of node StepCollector = accepts.Yes
 accepts_of node RestartCollector = accepts.Yes
 accepts_of node RestartNode = accepts.Yes

@@ -19,8 +19,8 @@ use Rattle.upkeep_run.specs.Places.{Place as Worker}
 use Rattle.upkeep_run.specs.Places as workers
 use Rattle.upkeep_run.specs.Steps as working
 use Rattle.upkeep_run.specs.declared.work.Aim.{Aim}
-use Rattle.upkeep_run.specs.declared.work.Aim.TheVariants.{Merging}
-use Rattle.node_run.specs.Node.{Node, Line, At, Assign, StepIndexer, RestartIndexer, RestartClient, StepMerger, RestartMerger, StepCollector, RestartCollector, RestartNode, Open, StepClient, world_fault, no_index, Outcome, at_said, assigned, indexer_busy, indexer_said, indexer_down, indexer_restarted, client_restarted, worker_said, worker_down, worker_restarted, collector_said, collector_down, collector_restarted, node_restarted, node_failed, request_opened, request_busy, client_said, client_down}
+use Rattle.upkeep_run.specs.declared.work.Aim.TheVariants.{Deleting, Merging}
+use Rattle.node_run.specs.Node.{Node, Line, At, Assign, StepIndexer, RestartIndexer, RestartClient, StepMerger, RestartMerger, StepDeleter, RestartDeleter, StepCollector, RestartCollector, RestartNode, Open, StepClient, world_fault, no_index, Outcome, at_said, assigned, indexer_busy, indexer_said, indexer_down, indexer_restarted, client_restarted, worker_said, worker_down, worker_restarted, collector_said, collector_down, collector_restarted, node_restarted, node_failed, request_opened, request_busy, client_said, client_down}
 
 -- The fate of one line: its call of a log, its call of the world, a client's or the collector's further calls if it makes some, where the
 -- pages end that the collector lists, and whether memory is missing: in its actor's own step, before the line does anything, or behind all
@@ -130,7 +130,7 @@ client_turn_by false luck name node =
 abbrev pub client_turn : Luck → List ℕ → Node → Turned
 client_turn luck name node = client_turn_by node.down luck name node
 
--- ---- a merger, and each worker
+-- ---- a merger, a delete worker, and each worker
 
 abbrev pub working_luck : Luck → working.Luck
 working_luck luck = record { world = luck.world; short = luck.inner }
@@ -152,6 +152,12 @@ with_merger worker node = record node { merger = worker }
 
 abbrev pub merger_turn : Luck → Node → Turned
 merger_turn luck node = worker_turn_by node.down Merging node.merger with_merger luck node
+
+abbrev pub with_deleter : Worker → Node → Node
+with_deleter worker node = record node { deleter = worker }
+
+abbrev pub deleter_turn : Luck → Node → Turned
+deleter_turn luck node = worker_turn_by node.down Deleting node.deleter with_deleter luck node
 
 -- ---- the collector
 
@@ -188,6 +194,7 @@ restarted node =
     record node {
       indexers = map made_idle node.indexers;
       merger = workers.idle;
+      deleter = workers.idle;
       clients = map without_request node.clients;
     }
 
@@ -215,6 +222,8 @@ full_turn luck node (RestartIndexer i) = turned (indexer_restarted i) (with_inde
 full_turn luck node (RestartClient name) = turned (client_restarted name) (keep_client (without_request (client_named name node.clients)) node)
 full_turn luck node StepMerger = merger_turn luck node
 full_turn luck node RestartMerger = turned (worker_restarted Merging) (with_merger workers.idle node)
+full_turn luck node StepDeleter = deleter_turn luck node
+full_turn luck node RestartDeleter = turned (worker_restarted Deleting) (with_deleter workers.idle node)
 full_turn luck node StepCollector = collector_turn luck node
 full_turn luck node RestartCollector = turned collector_restarted node
 full_turn luck node RestartNode = restart_turn luck node
@@ -239,6 +248,8 @@ quiet (RestartIndexer i) node = with_indexer i (made_idle (indexer_at node.index
 quiet (RestartClient name) node = drop_request name node
 quiet StepMerger node = with_merger workers.idle node
 quiet RestartMerger node = with_merger workers.idle node
+quiet StepDeleter node = with_deleter workers.idle node
+quiet RestartDeleter node = with_deleter workers.idle node
 quiet StepCollector node = node
 quiet RestartCollector node = node
 quiet RestartNode node = stopped node.core node
@@ -338,4 +349,4 @@ opened_core o =
 
 abbrev pub opened_node : Opening → Node
 opened_node o =
-    record { log = o.log; core = opened_core o; down = false; indexers = map reader_of o.log_faults; merger = workers.idle; clients = [] }
+    record { log = o.log; core = opened_core o; down = false; indexers = map reader_of o.log_faults; merger = workers.idle; deleter = workers.idle; clients = [] }

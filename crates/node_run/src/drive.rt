@@ -16,7 +16,7 @@ ghost use Rattle.split_collector.specs.Ending.{CallsTo};
 ghost use Rattle.split_collector.specs.Turns.{ended, to_mark};
 ghost use Rattle.upkeep_run.specs.Places.{Place as Worker};
 ghost use Rattle.upkeep_run.specs.Standing.{PlaceStands};
-ghost use Rattle.upkeep_run.specs.declared.work.Aim.TheVariants.{Merging};
+ghost use Rattle.upkeep_run.specs.declared.work.Aim.TheVariants.{Deleting, Merging};
 ghost use Rattle.node_run.specs.Alone.{CollectsAlone, SearchesAlone, StepsAlone, WorksAlone};
 ghost use Rattle.node_run.specs.Calm.{log_counts};
 ghost use Rattle.node_run.specs.Fitting.{IsNumbered, IsYes};
@@ -25,7 +25,7 @@ ghost use Rattle.node_run.specs.Logs.{logs_in};
 ghost use Rattle.node_run.specs.Named.{place_in, names_of, HasPlaces, IsKnown};
 ghost use Rattle.node_run.specs.Node.{Node};
 ghost use Rattle.node_run.specs.Node as said;
-ghost use Rattle.node_run.specs.Printing.{AnswersAlone, fault_text, EndsAlone, MergesAlone, told_alone, TellsSearch, HasMore, PrintsLine};
+ghost use Rattle.node_run.specs.Printing.{AnswersAlone, fault_text, EndsAlone, DeletesAlone, MergesAlone, told_alone, TellsSearch, HasMore, PrintsLine};
 ghost use Rattle.node_run.specs.Seen.{seen};
 ghost use Rattle.node_run.specs.Standing.{NodeStands, IsFresh, fresh_node, accepts_of, accepts_client, accepts_indexer, DoesLine, DoesMost, LetGo, GivesLogs, GivesStore};
 ghost use Rattle.node_run.specs.Turns.{made_idle, quiet, stopped};
@@ -46,18 +46,20 @@ use std::alloc::{AllocError, Global};
 use std::collections::BTreeMap;
 use std::mem;
 use std::thread::Threads;
-use upkeep_run::{Merger, UpkeepOutcome};
+use upkeep_run::{DeleteWorker, Merger, UpkeepOutcome};
 
 /// How many clients an input may name.
 pub const MAX_CLIENTS: u64 = 10_000;
 
 const MOMENT_END: u64 = 1 << 62;
 
-/// A node: a world, one indexer for each log, a merger, a collector, and one searcher for each client that a line named.
+/// A node: a world, one indexer for each log, a merger, a delete worker, a collector, and one searcher for each client
+/// that a line named.
 pub struct DriveNode<S: ObjectStore, L: SourceLog> {
     gate: Direct<S, ScriptClock>,
     indexers: Vec<Indexer<L>>,
     merger: Merger,
+    deleter: DeleteWorker,
     collector: Collector,
     clients: Vec<Searcher>,
     // The place of each client among the searchers.
@@ -110,6 +112,19 @@ fn step_merger<S: ObjectStore>(
     ensures ends { MergesAlone merger.old.place result merger.new.place gate.old.world gate.new.world }
 {
     merger.step(alloc, gate)
+}
+
+fn step_deleter<S: ObjectStore>(
+    alloc: Global,
+    gate: &mut Direct<S, ScriptClock>,
+    deleter: &mut DeleteWorker,
+) -> Result<UpkeepOutcome, AllocError>
+    ensures step { (worker : Worker) (core : Core) (log : Log) → IsLog log → PlaceStands Deleting log core deleter.old.place worker → WorldStands gate.old.world core log →
+        WorksAlone Deleting result worker core log deleter.new.place gate.new.world }
+    // Whatever the world is.
+    ensures ends { DeletesAlone deleter.old.place result deleter.new.place gate.old.world gate.new.world }
+{
+    deleter.step(alloc, gate)
 }
 
 fn step_collector<S: ObjectStore>(
@@ -296,6 +311,7 @@ impl<S: ObjectStore, L: SourceLog> DriveNode<S, L> {
             gate: Direct::over(world),
             indexers,
             merger: Merger::start(),
+            deleter: DeleteWorker::start(),
             collector: Collector::start(),
             clients: Vec::new(alloc),
             places: BTreeMap::new(alloc),
@@ -317,6 +333,7 @@ impl<S: ObjectStore, L: SourceLog> DriveNode<S, L> {
             gate,
             indexers,
             merger: _,
+            deleter: _,
             collector: _,
             clients: _,
             places: _,
@@ -382,6 +399,8 @@ impl<S: ObjectStore, L: SourceLog> DriveNode<S, L> {
             Line::RestartClient { client } => self.accepts_client(client),
             Line::Merger => Accepts::Yes,
             Line::RestartMerger => Accepts::Yes,
+            Line::Deleter => Accepts::Yes,
+            Line::RestartDeleter => Accepts::Yes,
             Line::Collector => Accepts::Yes,
             Line::RestartCollector => Accepts::Yes,
             Line::RestartNode => Accepts::Yes,
@@ -399,6 +418,7 @@ impl<S: ObjectStore, L: SourceLog> DriveNode<S, L> {
     {
         restart_indexers(self.indexers.as_mut_slice());
         self.merger.restart();
+        self.deleter.restart();
         restart_clients(self.clients.as_mut_slice());
         self.down = true;
     }
@@ -462,6 +482,33 @@ impl<S: ObjectStore, L: SourceLog> DriveNode<S, L> {
     {
         self.merger.restart();
         OutLine::merger_restarted(alloc)
+    }
+
+    fn deleter_line(&mut self, alloc: Global) -> Result<OutLine, AllocError>
+        ensures count { vec_len self.new.indexers ≡ vec_len self.old.indexers }
+        ensures does { (firsts : List L) (node : Node) → NodeStands L.told L.fault_count L.since firsts self.old node →
+            DoesMost L.told L.fault_count L.since firsts node said.StepDeleter result self.new }
+        // Whatever the node is.
+        ensures prints { IfOk result (λ out. PrintsLine L.told L.fault_count said.StepDeleter self.old self.new out.bytes) }
+    {
+        if self.down {
+            return OutLine::deleter_down(alloc);
+        }
+        let outcome = step_deleter(alloc, &mut self.gate, &mut self.deleter)?;
+        let line = OutLine::deleter(alloc, &outcome);
+        mem::drop(outcome);
+        line
+    }
+
+    fn restart_deleter(&mut self, alloc: Global) -> Result<OutLine, AllocError>
+        ensures count { vec_len self.new.indexers ≡ vec_len self.old.indexers }
+        ensures does { (firsts : List L) (node : Node) → NodeStands L.told L.fault_count L.since firsts self.old node →
+            DoesMost L.told L.fault_count L.since firsts node said.RestartDeleter result self.new }
+        // Whatever the node is.
+        ensures prints { IfOk result (λ out. PrintsLine L.told L.fault_count said.RestartDeleter self.old self.new out.bytes) }
+    {
+        self.deleter.restart();
+        OutLine::deleter_restarted(alloc)
     }
 
     fn collector_line(&mut self, alloc: Global) -> Result<OutLine, AllocError>
@@ -612,6 +659,8 @@ impl<S: ObjectStore, L: SourceLog> DriveNode<S, L> {
             Line::RestartClient { client } => self.restart_client(alloc, client),
             Line::Merger => self.merger_line(alloc),
             Line::RestartMerger => self.restart_merger(alloc),
+            Line::Deleter => self.deleter_line(alloc),
+            Line::RestartDeleter => self.restart_deleter(alloc),
             Line::Collector => self.collector_line(alloc),
             Line::RestartCollector => self.restart_collector(alloc),
             Line::RestartNode => self.restart_node(alloc),
@@ -644,6 +693,12 @@ impl<S: ObjectStore, L: SourceLog> DriveNode<S, L> {
         self.merger.restart();
     }
 
+    fn quiet_deleter(&mut self)
+        ensures { (firsts : List L) (node : Node) → NodeStands L.told L.fault_count L.since firsts self.old node → NodeStands L.told L.fault_count L.since firsts self.new (quiet said.RestartDeleter node) }
+    {
+        self.deleter.restart();
+    }
+
     // The line's actor is idle and its request is dropped.
     fn quiet(&mut self, line: &Line)
         requires { IsNumbered line.now (vec_len self.old.indexers) }
@@ -657,6 +712,8 @@ impl<S: ObjectStore, L: SourceLog> DriveNode<S, L> {
             Line::RestartClient { client } => self.quiet_client(client),
             Line::Merger => self.quiet_merger(),
             Line::RestartMerger => self.quiet_merger(),
+            Line::Deleter => self.quiet_deleter(),
+            Line::RestartDeleter => self.quiet_deleter(),
             Line::Collector => {}
             Line::RestartCollector => {}
             Line::RestartNode => self.stop(),

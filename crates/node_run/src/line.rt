@@ -45,6 +45,9 @@ pub enum Line {
     /// A step of the merger.
     Merger,
     RestartMerger,
+    /// A step of the delete worker.
+    Deleter,
+    RestartDeleter,
     /// A step of the collector.
     Collector,
     RestartCollector,
@@ -184,6 +187,9 @@ fn restart_line(rest: &[u8]) -> Result<Line, LineError>
     if rest == b"merger".as_slice() {
         return Ok(Line::RestartMerger);
     }
+    if rest == b"deleter".as_slice() {
+        return Ok(Line::RestartDeleter);
+    }
     if rest == b"collector".as_slice() {
         return Ok(Line::RestartCollector);
     }
@@ -223,6 +229,9 @@ pub fn read_line(alloc: Global, bytes: &[u8]) -> Result<Line, LineError>
     }
     if bytes == b"merger".as_slice() {
         return Ok(Line::Merger);
+    }
+    if bytes == b"deleter".as_slice() {
+        return Ok(Line::Deleter);
     }
     if bytes == b"collector".as_slice() {
         return Ok(Line::Collector);

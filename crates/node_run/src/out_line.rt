@@ -9,7 +9,7 @@ ghost use Rattle.split_collector.specs.Outcomes as collecting;
 ghost use Rattle.split_collector.specs.Standing.{IsSaid as IsCollected};
 ghost use Rattle.upkeep_run.specs.Outcomes as working;
 ghost use Rattle.upkeep_run.specs.Standing.{IsSaid as IsWorked};
-ghost use Rattle.upkeep_run.specs.declared.work.Aim.TheVariants.{Merging};
+ghost use Rattle.upkeep_run.specs.declared.work.Aim.TheVariants.{Deleting, Merging};
 ghost use Rattle.node_run.specs.Lines.{outcome_text};
 ghost use Rattle.node_run.specs.Node as said;
 ghost use Rattle.node_run.specs.Printing.{collected_text, fault_text, said_text, worked_text};
@@ -61,6 +61,13 @@ fn of_merger(alloc: Global, text: &[u8]) -> Result<OutLine, AllocError>
     ensures { IfOk result (λ out. out.bytes ≡ codes "merger" ++ 32 ∷ text.now) }
 {
     behind_word(alloc, b"merger", text)
+}
+
+// `deleter` and a text.
+fn of_deleter(alloc: Global, text: &[u8]) -> Result<OutLine, AllocError>
+    ensures { IfOk result (λ out. out.bytes ≡ codes "deleter" ++ 32 ∷ text.now) }
+{
+    behind_word(alloc, b"deleter", text)
 }
 
 // `collector` and a text.
@@ -179,6 +186,28 @@ impl OutLine {
         ensures { IfOk result (λ out. out.bytes ≡ outcome_text (said.worker_restarted Merging)) }
     {
         of_merger(alloc, b"restarted")
+    }
+
+    pub fn deleter(alloc: Global, outcome: &UpkeepOutcome) -> Result<OutLine, AllocError>
+        ensures said { (answer : working.UpkeepOutcome) → IsWorked outcome.now answer →
+            IfOk result (λ out. out.bytes ≡ outcome_text (said.worker_said Deleting answer)) }
+        // Whatever the outcome is.
+        ensures exact { IfOk result (λ out. out.bytes ≡ worked_text Deleting outcome.now) }
+    {
+        let words = upkeep_run::print_outcome(alloc, outcome)?;
+        of_deleter(alloc, words.as_slice())
+    }
+
+    pub fn deleter_down(alloc: Global) -> Result<OutLine, AllocError>
+        ensures { IfOk result (λ out. out.bytes ≡ outcome_text (said.worker_down Deleting)) }
+    {
+        of_deleter(alloc, b"down")
+    }
+
+    pub fn deleter_restarted(alloc: Global) -> Result<OutLine, AllocError>
+        ensures { IfOk result (λ out. out.bytes ≡ outcome_text (said.worker_restarted Deleting)) }
+    {
+        of_deleter(alloc, b"restarted")
     }
 
     pub fn collector(alloc: Global, outcome: &CollectorOutcome) -> Result<OutLine, AllocError>

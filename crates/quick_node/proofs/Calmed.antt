@@ -17,7 +17,7 @@ use Rattle.index_world.specs.Calls as calls
 use Rattle.index_world.specs.Core.{Core, Late, journal_of, last_count, with_unread}
 use Rattle.index_world.specs.Standing.{late_object}
 use Rattle.node_run.specs.Calm.{IsStill, log_counts, IsOfThese}
-use Rattle.node_run.specs.Node.{Node, Line, At, Assign, StepIndexer, RestartIndexer, RestartClient, StepMerger, RestartMerger, StepCollector, RestartCollector, RestartNode, Open, StepClient, Outcome}
+use Rattle.node_run.specs.Node.{Node, Line, At, Assign, StepIndexer, RestartIndexer, RestartClient, StepMerger, RestartMerger, StepDeleter, RestartDeleter, StepCollector, RestartCollector, RestartNode, Open, StepClient, Outcome}
 use Rattle.node_run.specs.Turns.{Turns, turns, reader_of, Opening}
 use Rattle.node_run.proofs.Calming.{Calms}
 use Rattle.node_run.proofs.CalmSteps.{loaded_calms}
@@ -44,6 +44,8 @@ read_of_these readers before (RestartIndexer i) e = ltb-true i readers (fit_hold
 read_of_these readers before (RestartClient name) e = tt
 read_of_these readers before StepMerger e = tt
 read_of_these readers before RestartMerger e = tt
+read_of_these readers before StepDeleter e = tt
+read_of_these readers before RestartDeleter e = tt
 read_of_these readers before StepCollector e = tt
 read_of_these readers before RestartCollector e = tt
 read_of_these readers before RestartNode e = tt

@@ -32,14 +32,14 @@ use Rattle.indexing_run.specs.Steps as indexing
 use Rattle.indexing_run.proofs.Reading.{target_ranges}
 use Rattle.upkeep_run.specs.Outcomes.{UpkeepOutcome}
 use Rattle.upkeep_run.specs.declared.work.Aim.{Aim}
-use Rattle.upkeep_run.specs.declared.work.Aim.TheVariants.{Merging}
-use Rattle.node_run.specs.Node.{Node, Line, At, Assign, StepIndexer, RestartIndexer, RestartClient, StepMerger, RestartMerger, StepCollector, RestartCollector, RestartNode, Open, StepClient, Outcome, indexer_said, assigned}
+use Rattle.upkeep_run.specs.declared.work.Aim.TheVariants.{Deleting, Merging}
+use Rattle.node_run.specs.Node.{Node, Line, At, Assign, StepIndexer, RestartIndexer, RestartClient, StepMerger, RestartMerger, StepDeleter, RestartDeleter, StepCollector, RestartCollector, RestartNode, Open, StepClient, Outcome, indexer_said, assigned}
 use Rattle.root_search.specs.Steps.{Request, no_request, opened, planned, Client}
 use Rattle.root_search.specs.declared.outcome.SearchStep.{SearchStep}
 use Rattle.split_collector.specs.Outcomes.{Outcome as CollectorOutcome}
 use Rattle.node_run.proofs.CallMoves.{Grows}
 use Rattle.node_run.proofs.Moving.{turn_later, turns_later}
-use Rattle.node_run.specs.Turns.{reader_of, said_by_client, said_by_collector, Luck, Turned, turned, indexer_at, with_indexer, made_idle, indexing_luck, said_by_indexer, assign_at, indexer_turn_by, client_turn_by, client_named, collector_turn_by, open_by, restart_by, full_turn, quiet, or_quiet, turn_by, Turn, Turns, said_by_worker, worker_turn_by, with_merger}
+use Rattle.node_run.specs.Turns.{reader_of, said_by_client, said_by_collector, Luck, Turned, turned, indexer_at, with_indexer, made_idle, indexing_luck, said_by_indexer, assign_at, indexer_turn_by, client_turn_by, client_named, collector_turn_by, open_by, restart_by, full_turn, quiet, or_quiet, turn_by, Turn, Turns, said_by_worker, worker_turn_by, with_deleter, with_merger}
 use Rattle.quick_node.specs.CaughtUp.{IfHere, Seen, unseen, after_said, after_line, AreEnds, SaidAtEnds, LineAtEnds, CatchesUp}
 use Rattle.quick_node.specs.Serve.{IsPrefixOf, Before, End, by_reading, no_index, opening_failed, read_failed, write_failed, out_of_memory, IsFresh, Answers, Unopened, RanShort, Lives}
 use Rattle.quick_node.proofs.Living.{opens_moves}
@@ -578,9 +578,17 @@ module _ (exit : List Entry) (log : Log) (i : ℕ) (seen : Seen) where
     worked_did aim None new l v = unsaid_did StepMerger new
     worked_did aim (Some o) new l v = said_did StepMerger _ new (λ p. record { says = tt; log_is = l; watches = v })
 
+    deleted_did : (aim : Aim) (said : Option UpkeepOutcome) (new : Node) → new.log ≡ log → Watches exit log i seen new.indexers → TurnDid StepDeleter (record { said = said_by_worker aim said; node = new })
+    deleted_did aim None new l v = unsaid_did StepDeleter new
+    deleted_did aim (Some o) new l v = said_did StepDeleter _ new (λ p. record { says = tt; log_is = l; watches = v })
+
     merger_did : (down : Bool) (luck : Luck) → TurnDid StepMerger (worker_turn_by down Merging node.merger with_merger luck node)
     merger_did true luck = said_did StepMerger _ node (λ p. record { says = tt; log_is = log_is; watches = w })
     merger_did false luck = worked_did Merging _ _ log_is w
+
+    deleter_did : (down : Bool) (luck : Luck) → TurnDid StepDeleter (worker_turn_by down Deleting node.deleter with_deleter luck node)
+    deleter_did true luck = said_did StepDeleter _ node (λ p. record { says = tt; log_is = log_is; watches = w })
+    deleter_did false luck = deleted_did Deleting _ _ log_is w
 
     collected_did : (said : Option CollectorOutcome) (new : Node) → new.log ≡ log → Watches exit log i seen new.indexers →
         TurnDid StepCollector (record { said = said_by_collector said; node = new })
@@ -605,6 +613,8 @@ module _ (exit : List Entry) (log : Log) (i : ℕ) (seen : Seen) where
     full_did luck (RestartClient name) = said_did (RestartClient name) _ _ (λ p. record { says = tt; log_is = log_is; watches = w })
     full_did luck StepMerger = merger_did node.down luck
     full_did luck RestartMerger = said_did RestartMerger _ _ (λ p. record { says = tt; log_is = log_is; watches = w })
+    full_did luck StepDeleter = deleter_did node.down luck
+    full_did luck RestartDeleter = said_did RestartDeleter _ _ (λ p. record { says = tt; log_is = log_is; watches = w })
     full_did luck StepCollector = collector_did node.down luck
     full_did luck RestartCollector = said_did RestartCollector _ node (λ p. record { says = tt; log_is = log_is; watches = w })
     full_did luck RestartNode = let given = calls.loaded luck.world node.core in restart_did given.answer given.core

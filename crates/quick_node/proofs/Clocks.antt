@@ -2,9 +2,9 @@
 use Rattle.std.proofs.Common.{◌≡◌, [], ◌∷◌, refl, sym, ap, ◌∙◌, Bool, true, false}
 use Rattle.std.specs.Prelude.{Some, None}
 use Rattle.index_world.specs.Calls.{loaded}
-use Rattle.upkeep_run.specs.declared.work.Aim.TheVariants.{Merging}
-use Rattle.node_run.specs.Node.{Node, Line, At, Assign, StepIndexer, RestartIndexer, RestartClient, StepMerger, RestartMerger, StepCollector, RestartCollector, RestartNode, Open, StepClient, Outcome}
-use Rattle.node_run.specs.Turns.{Luck, indexer_at, client_named, with_merger, full_turn, or_quiet, turn_by, Turn}
+use Rattle.upkeep_run.specs.declared.work.Aim.TheVariants.{Deleting, Merging}
+use Rattle.node_run.specs.Node.{Node, Line, At, Assign, StepIndexer, RestartIndexer, RestartClient, StepMerger, RestartMerger, StepDeleter, RestartDeleter, StepCollector, RestartCollector, RestartNode, Open, StepClient, Outcome}
+use Rattle.node_run.specs.Turns.{Luck, indexer_at, client_named, with_deleter, with_merger, full_turn, or_quiet, turn_by, Turn}
 use Rattle.node_run.proofs.CallMoves.{loaded_moves}
 use Rattle.node_run.proofs.Moving.{assign_same, open_same, restart_same, indexer_turn_moves, client_turn_moves, worker_turn_moves, collector_turn_moves}
 use Rattle.quick_node.specs.Reading.{last_moment}
@@ -18,6 +18,8 @@ full_ticks luck node (RestartIndexer i) = refl
 full_ticks luck node (RestartClient name) = refl
 full_ticks luck node StepMerger = (worker_turn_moves node.down Merging node.merger with_merger luck node).ticks
 full_ticks luck node RestartMerger = refl
+full_ticks luck node StepDeleter = (worker_turn_moves node.down Deleting node.deleter with_deleter luck node).ticks
+full_ticks luck node RestartDeleter = refl
 full_ticks luck node StepCollector = (collector_turn_moves node.down luck node).ticks
 full_ticks luck node RestartCollector = refl
 full_ticks luck node RestartNode =

@@ -38,11 +38,12 @@ use Rattle.split_collector.specs.Outcomes.{Outcome as CollectorOutcome}
 use Rattle.upkeep_run.specs.Outcomes.{UpkeepOutcome}
 use Rattle.upkeep_run.specs.Places as workers
 use Rattle.upkeep_run.specs.declared.work.Aim.{Aim}
-use Rattle.upkeep_run.specs.declared.work.Aim.TheVariants.{Merging}
-use Rattle.node_run.specs.Node.{Node, Line, At, Assign, StepIndexer, RestartIndexer, RestartClient, StepMerger, RestartMerger, StepCollector, RestartCollector, RestartNode, Open, StepClient, Outcome}
+use Rattle.upkeep_run.specs.declared.work.Aim.TheVariants.{Deleting, Merging}
+use Rattle.node_run.specs.Node.{Node, Line, At, Assign, StepIndexer, RestartIndexer, RestartClient, StepMerger, RestartMerger, StepDeleter, RestartDeleter, StepCollector, RestartCollector, RestartNode, Open, StepClient, Outcome, client_said}
 use Rattle.node_run.specs.Telling.{IsOfText}
 use Rattle.node_run.specs.Turns as node_turns
-use Rattle.node_run.specs.Turns.{Turned, Turn, Turns, assign_at, client_named, client_turn_by, collector_turn_by, full_turn, indexer_at, indexer_turn_by, open_by, or_quiet, quiet, restart_by, said_by_client, said_by_collector, said_by_indexer, said_by_worker, searching_luck, turn_by, with_client, with_dropped, with_merger, worker_turn_by, working_luck}
+use Rattle.node_run.specs.Turns.{Turned, Turn, Turns, assign_at, client_named, client_turn_by, collector_turn_by, full_turn, indexer_at, indexer_turn_by, open_by, or_quiet, quiet, restart_by, said_by_client, said_by_collector, said_by_indexer, said_by_worker, searching_luck, turn_by, with_client, with_dropped, with_deleter, with_merger, worker_turn_by, working_luck}
+use Rattle.node_run.proofs.CallMoves.{Grows, asked_and_looked_moves}
 use Rattle.node_run.proofs.CallTells.{IfErr, IsStoreTrouble, asked_and_looked_own}
 use Rattle.node_run.proofs.Moving.{plan_same, turn_later, turns_later}
 use Rattle.node_run.proofs.Refusals.{OfText, asked_of_text}
@@ -211,16 +212,17 @@ LineOver grace (Some outcome) = ExpiresOver grace outcome
 record LineKeeps (grace : ℕ) (turn : Turned) : Type 0 where
   clients : AllKeep grace turn.node.clients
   merger : WorkerKeeps grace turn.node.merger
+  deleter : WorkerKeeps grace turn.node.deleter
   said : LineOver grace turn.said
 
-module _ (grace : ℕ) (node : Node) (all : AllKeep grace node.clients) (work : WorkerKeeps grace node.merger) where
+module _ (grace : ℕ) (node : Node) (all : AllKeep grace node.clients) (work : WorkerKeeps grace node.merger) (deletes : WorkerKeeps grace node.deleter) where
   indexer_over : (i : ℕ) (outcome : Option IndexerOutcome) → LineOver grace (said_by_indexer i outcome)
   indexer_over i None = tt
   indexer_over i (Some outcome) = tt
 
   indexer_keeps : (down : Bool) (luck : node_turns.Luck) (i : ℕ) → LineKeeps grace (indexer_turn_by down luck i node)
-  indexer_keeps true luck i = record { clients = all; merger = work; said = tt }
-  indexer_keeps false luck i = record { clients = all; merger = work; said = indexer_over i _ }
+  indexer_keeps true luck i = record { clients = all; merger = work; deleter = deletes; said = tt }
+  indexer_keeps false luck i = record { clients = all; merger = work; deleter = deletes; said = indexer_over i _ }
 
   worker_over : (aim : Aim) (outcome : Option UpkeepOutcome) → WorkOver grace outcome → LineOver grace (said_by_worker aim outcome)
   worker_over aim None h = tt
@@ -228,17 +230,23 @@ module _ (grace : ℕ) (node : Node) (all : AllKeep grace node.clients) (work : 
 
   merger_keeps : (down : Bool) (luck : node_turns.Luck) → (config_in (worker_turn_by down Merging node.merger with_merger luck node).node.core).deletion_grace ≡ grace →
       LineKeeps grace (worker_turn_by down Merging node.merger with_merger luck node)
-  merger_keeps true luck same = record { clients = all; merger = work; said = tt }
+  merger_keeps true luck same = record { clients = all; merger = work; deleter = deletes; said = tt }
   merger_keeps false luck same =
-      let s = worker_keeps grace (working_luck luck) node.log node.core Merging node.merger work same in record { clients = all; merger = s.place; said = worker_over Merging _ s.said }
+      let s = worker_keeps grace (working_luck luck) node.log node.core Merging node.merger work same in record { clients = all; merger = s.place; deleter = deletes; said = worker_over Merging _ s.said }
+
+  deleter_keeps : (down : Bool) (luck : node_turns.Luck) → (config_in (worker_turn_by down Deleting node.deleter with_deleter luck node).node.core).deletion_grace ≡ grace →
+      LineKeeps grace (worker_turn_by down Deleting node.deleter with_deleter luck node)
+  deleter_keeps true luck same = record { clients = all; merger = work; deleter = deletes; said = tt }
+  deleter_keeps false luck same =
+      let s = worker_keeps grace (working_luck luck) node.log node.core Deleting node.deleter deletes same in record { clients = all; merger = work; deleter = s.place; said = worker_over Deleting _ s.said }
 
   collector_over : (outcome : Option CollectorOutcome) → LineOver grace (said_by_collector outcome)
   collector_over None = tt
   collector_over (Some outcome) = tt
 
   collector_keeps : (down : Bool) (luck : node_turns.Luck) → LineKeeps grace (collector_turn_by down luck node)
-  collector_keeps true luck = record { clients = all; merger = work; said = tt }
-  collector_keeps false luck = record { clients = all; merger = work; said = collector_over _ }
+  collector_keeps true luck = record { clients = all; merger = work; deleter = deletes; said = tt }
+  collector_keeps false luck = record { clients = all; merger = work; deleter = deletes; said = collector_over _ }
 
   client_over : (name : List ℕ) (outcome : Option SearchStep) → StepOver grace outcome → LineOver grace (said_by_client name outcome)
   client_over name None h = tt
@@ -248,39 +256,41 @@ module _ (grace : ℕ) (node : Node) (all : AllKeep grace node.clients) (work : 
   client_over name (Some (Replied reply)) h = h
 
   client_keeps : (down : Bool) (luck : node_turns.Luck) (name : List ℕ) → (config_in (client_turn_by down luck name node).node.core).deletion_grace ≡ grace → LineKeeps grace (client_turn_by down luck name node)
-  client_keeps true luck name same = record { clients = with_keeps grace (client_named name node.clients) node.clients (named_keeps grace name node.clients all) all; merger = work; said = tt }
+  client_keeps true luck name same = record { clients = with_keeps grace (client_named name node.clients) node.clients (named_keeps grace name node.clients all) all; merger = work; deleter = deletes; said = tt }
   client_keeps false luck name same =
       let client = client_named name node.clients in
       let s = step_keeps grace (searching_luck luck) node.log client node.core (named_keeps grace name node.clients all) same in
-      record { clients = with_keeps grace (step_client (searching_luck luck) node.log client node.core).client node.clients s.request all; merger = work; said = client_over name _ s.said }
+      record { clients = with_keeps grace (step_client (searching_luck luck) node.log client node.core).client node.clients s.request all; merger = work; deleter = deletes; said = client_over name _ s.said }
 
   assign_keeps : (place : Place) (i : ℕ) (names : List (List ℕ)) (indexer : Indexer) → LineKeeps grace (assign_at place i names indexer node)
-  assign_keeps idle i names indexer = record { clients = all; merger = work; said = tt }
-  assign_keeps (reading batch) i names indexer = record { clients = all; merger = work; said = tt }
-  assign_keeps (staged held) i names indexer = record { clients = all; merger = work; said = tt }
-  assign_keeps (uploaded held) i names indexer = record { clients = all; merger = work; said = tt }
+  assign_keeps idle i names indexer = record { clients = all; merger = work; deleter = deletes; said = tt }
+  assign_keeps (reading batch) i names indexer = record { clients = all; merger = work; deleter = deletes; said = tt }
+  assign_keeps (staged held) i names indexer = record { clients = all; merger = work; deleter = deletes; said = tt }
+  assign_keeps (uploaded held) i names indexer = record { clients = all; merger = work; deleter = deletes; said = tt }
 
   open_keeps : (request : Request) (name text : List ℕ) (client : Client) → LineKeeps grace (open_by request name text client node)
-  open_keeps no_request name text client = record { clients = with_keeps grace (record client { request = opened text }) node.clients tt all; merger = work; said = tt }
-  open_keeps (opened other) name text client = record { clients = all; merger = work; said = tt }
-  open_keeps (planned plan) name text client = record { clients = all; merger = work; said = tt }
+  open_keeps no_request name text client = record { clients = with_keeps grace (record client { request = opened text }) node.clients tt all; merger = work; deleter = deletes; said = tt }
+  open_keeps (opened other) name text client = record { clients = all; merger = work; deleter = deletes; said = tt }
+  open_keeps (planned plan) name text client = record { clients = all; merger = work; deleter = deletes; said = tt }
 
   restart_keeps : (r : Result ⊤ Unread) (core : Core) → LineKeeps grace (restart_by r core node)
-  restart_keeps (Ok done) core = record { clients = without_keeps grace node.clients; merger = tt; said = tt }
-  restart_keeps (Err (not_read (faulted fault))) core = record { clients = without_keeps grace node.clients; merger = tt; said = tt }
-  restart_keeps (Err (not_read no_memory)) core = record { clients = without_keeps grace node.clients; merger = tt; said = tt }
-  restart_keeps (Err calls.no_index) core = record { clients = without_keeps grace node.clients; merger = tt; said = tt }
+  restart_keeps (Ok done) core = record { clients = without_keeps grace node.clients; merger = tt; deleter = tt; said = tt }
+  restart_keeps (Err (not_read (faulted fault))) core = record { clients = without_keeps grace node.clients; merger = tt; deleter = tt; said = tt }
+  restart_keeps (Err (not_read no_memory)) core = record { clients = without_keeps grace node.clients; merger = tt; deleter = tt; said = tt }
+  restart_keeps (Err calls.no_index) core = record { clients = without_keeps grace node.clients; merger = tt; deleter = tt; said = tt }
 
   full_keeps : (luck : node_turns.Luck) (line : Line) → (config_in (full_turn luck node line).node.core).deletion_grace ≡ grace → LineKeeps grace (full_turn luck node line)
-  full_keeps luck (At moment) same = record { clients = all; merger = work; said = tt }
+  full_keeps luck (At moment) same = record { clients = all; merger = work; deleter = deletes; said = tt }
   full_keeps luck (Assign i names) same = assign_keeps (indexer_at node.indexers i).place i names (indexer_at node.indexers i)
   full_keeps luck (StepIndexer i) same = indexer_keeps node.down luck i
-  full_keeps luck (RestartIndexer i) same = record { clients = all; merger = work; said = tt }
-  full_keeps luck (RestartClient name) same = record { clients = with_keeps grace (without_request (client_named name node.clients)) node.clients tt all; merger = work; said = tt }
+  full_keeps luck (RestartIndexer i) same = record { clients = all; merger = work; deleter = deletes; said = tt }
+  full_keeps luck (RestartClient name) same = record { clients = with_keeps grace (without_request (client_named name node.clients)) node.clients tt all; merger = work; deleter = deletes; said = tt }
   full_keeps luck StepMerger same = merger_keeps node.down luck same
-  full_keeps luck RestartMerger same = record { clients = all; merger = tt; said = tt }
+  full_keeps luck RestartMerger same = record { clients = all; merger = tt; deleter = deletes; said = tt }
+  full_keeps luck StepDeleter same = deleter_keeps node.down luck same
+  full_keeps luck RestartDeleter same = record { clients = all; merger = work; deleter = tt; said = tt }
   full_keeps luck StepCollector same = collector_keeps node.down luck
-  full_keeps luck RestartCollector same = record { clients = all; merger = work; said = tt }
+  full_keeps luck RestartCollector same = record { clients = all; merger = work; deleter = deletes; said = tt }
   full_keeps luck RestartNode same = let given = loaded luck.world node.core in restart_keeps given.answer given.core
   full_keeps luck (Open name text) same = open_keeps (client_named name node.clients).request name text (client_named name node.clients)
   full_keeps luck (StepClient name) same = client_keeps node.down luck name same
@@ -290,16 +300,16 @@ module _ (grace : ℕ) (node : Node) (all : AllKeep grace node.clients) (work : 
 none_is_some : (outcome : Outcome) → None ≡ Some outcome → ⊥
 none_is_some outcome e = cc
 
-line_keeps : (grace : ℕ) (node : Node) (line : Line) (outcome : Outcome) (last : Node) → AllKeep grace node.clients × WorkerKeeps grace node.merger → (config_in last.core).deletion_grace ≡ grace → Turn node line (Some outcome) last →
-    (AllKeep grace last.clients × WorkerKeeps grace last.merger) × ExpiresOver grace outcome
+line_keeps : (grace : ℕ) (node : Node) (line : Line) (outcome : Outcome) (last : Node) → AllKeep grace node.clients × WorkerKeeps grace node.merger × WorkerKeeps grace node.deleter → (config_in last.core).deletion_grace ≡ grace → Turn node line (Some outcome) last →
+    (AllKeep grace last.clients × WorkerKeeps grace last.merger × WorkerKeeps grace last.deleter) × ExpiresOver grace outcome
 line_keeps grace node line outcome last all same t = early t.luck.early t.is
   where
-    quiet_by : (b : Bool) → or_quiet b line (full_turn t.luck node line) ≡ record { said = Some outcome; node = last } → (AllKeep grace last.clients × WorkerKeeps grace last.merger) × ExpiresOver grace outcome
+    quiet_by : (b : Bool) → or_quiet b line (full_turn t.luck node line) ≡ record { said = Some outcome; node = last } → (AllKeep grace last.clients × WorkerKeeps grace last.merger × WorkerKeeps grace last.deleter) × ExpiresOver grace outcome
     quiet_by true e = absurd (none_is_some outcome (ap (λ r. r.said) e))
     quiet_by false e =
-        let k = subst (LineKeeps grace) e (full_keeps grace node all.0 all.1 t.luck line (ap (λ r. (config_in r.node.core).deletion_grace) e ∙ same)) in ((k.clients, k.merger), k.said)
+        let k = subst (LineKeeps grace) e (full_keeps grace node all.0 all.1 all.2 t.luck line (ap (λ r. (config_in r.node.core).deletion_grace) e ∙ same)) in ((k.clients, k.merger, k.deleter), k.said)
 
-    early : (b : Bool) → turn_by b t.luck node line ≡ record { said = Some outcome; node = last } → (AllKeep grace last.clients × WorkerKeeps grace last.merger) × ExpiresOver grace outcome
+    early : (b : Bool) → turn_by b t.luck node line ≡ record { said = Some outcome; node = last } → (AllKeep grace last.clients × WorkerKeeps grace last.merger × WorkerKeeps grace last.deleter) × ExpiresOver grace outcome
     early true e = absurd (none_is_some outcome (ap (λ r. r.said) e))
     early false e = quiet_by t.luck.short e
 
@@ -319,7 +329,7 @@ module _ (entry exit : List Entry) (begins : IsPrefixOf entry exit) (legal : Leg
   longer : (xs ys : List Entry) → IsPrefixOf xs ys → length xs ≤ length ys
   longer xs ys p = let l : length ys ≡ length xs + length p.0 = ap length p.1 ∙ length-append xs p.0 in omega (arith, l)
 
-  turns_expire : (node last : Node) (lines : List Line) (outcomes : List Outcome) → AllKeep grace node.clients × WorkerKeeps grace node.merger → length entry ≤ length node.core.history → IsPrefixOf last.core.history exit →
+  turns_expire : (node last : Node) (lines : List Line) (outcomes : List Outcome) → AllKeep grace node.clients × WorkerKeeps grace node.merger × WorkerKeeps grace node.deleter → length entry ≤ length node.core.history → IsPrefixOf last.core.history exit →
       Turns node lines outcomes last → AllByRecursion (ExpiresOver grace) outcomes
   turns_expire node last [] [] all le p run = tt
   turns_expire node last [] (o ∷ os) all le p run = absurd run
@@ -335,7 +345,7 @@ module _ (entry exit : List Entry) (begins : IsPrefixOf entry exit) (legal : Leg
   module _ (before : Before) (fresh : Node) (fresh_is : IsFresh before entry fresh) where
     answers_expire : (lines : List Line) (outcomes : List Outcome) (last : Node) → Answers fresh lines outcomes last → IsPrefixOf last.core.history exit → AllByRecursion (ExpiresOver grace) outcomes
     answers_expire lines outcomes last a p =
-        turns_expire a.opened last lines outcomes (subst (AllKeep grace) (sym clients) tt, subst (WorkerKeeps grace) (sym idle_is) tt)
+        turns_expire a.opened last lines outcomes (subst (AllKeep grace) (sym clients) tt, subst (WorkerKeeps grace) (sym idle_is) tt, subst (WorkerKeeps grace) (sym deleter_is) tt)
         (let more = longer fresh.core.history a.opened.core.history (opens_moves fresh (Ok tt) a.opened a.opens).later.grows in let same = ap (λ (n : Node). length n.core.history) fresh_is.is in omega (arith, more, same)) p
         a.turns
       where
@@ -344,6 +354,9 @@ module _ (entry exit : List Entry) (begins : IsPrefixOf entry exit) (legal : Leg
 
         idle_is : a.opened.merger ≡ workers.idle
         idle_is = ap (λ (n : Node). n.merger) a.opens.is ∙ ap (λ (n : Node). n.merger) fresh_is.is
+
+        deleter_is : a.opened.deleter ≡ workers.idle
+        deleter_is = ap (λ (n : Node). n.deleter) a.opens.is ∙ ap (λ (n : Node). n.deleter) fresh_is.is
 
     none_expire : (outcomes : List Outcome) → outcomes ≡ [] → AllByRecursion (ExpiresOver grace) outcomes
     none_expire outcomes none = subst (AllByRecursion (ExpiresOver grace)) (sym none) tt

@@ -40,9 +40,9 @@ use Rattle.root_search.specs.declared.outcome.SearchStep.{SearchStep}
 use Rattle.split_collector.specs.Outcomes.{Outcome as CollectorOutcome}
 use Rattle.upkeep_run.specs.Outcomes.{UpkeepOutcome}
 use Rattle.upkeep_run.specs.declared.work.Aim.{Aim}
-use Rattle.upkeep_run.specs.declared.work.Aim.TheVariants.{Merging}
-use Rattle.node_run.specs.Node.{Node, Line, At, Assign, StepIndexer, RestartIndexer, RestartClient, StepMerger, RestartMerger, StepCollector, RestartCollector, RestartNode, Open, StepClient, Outcome}
-use Rattle.node_run.specs.Turns.{Luck, Turned, indexer_at, indexing_luck, searching_luck, said_by_indexer, said_by_client, said_by_collector, assign_at, indexer_turn_by, client_turn_by, client_named, collecting_luck, collector_turn_by, open_by, restart_by, full_turn, quiet, or_quiet, turn_by, Turn, Turns, working_luck, said_by_worker, worker_turn_by, with_merger}
+use Rattle.upkeep_run.specs.declared.work.Aim.TheVariants.{Deleting, Merging}
+use Rattle.node_run.specs.Node.{Node, Line, At, Assign, StepIndexer, RestartIndexer, RestartClient, StepMerger, RestartMerger, StepDeleter, RestartDeleter, StepCollector, RestartCollector, RestartNode, Open, StepClient, Outcome}
+use Rattle.node_run.specs.Turns.{Luck, Turned, indexer_at, indexing_luck, searching_luck, said_by_indexer, said_by_client, said_by_collector, assign_at, indexer_turn_by, client_turn_by, client_named, collecting_luck, collector_turn_by, open_by, restart_by, full_turn, quiet, or_quiet, turn_by, Turn, Turns, working_luck, said_by_worker, worker_turn_by, with_deleter, with_merger}
 use Rattle.node_run.proofs.Refusals.{OfText, asked_of_text}
 use Rattle.node_run.specs.Telling.{IsOfText}
 use Rattle.quick_node.specs.Faults.{Interval, AreBetween, indexer_told, refusal_told, said_told, search_told, store_told}
@@ -315,6 +315,10 @@ module _ (luck : Luck) (node : Node) (bound : node.core.store_faults ≤ last_co
   merger_turn_said true = still node.core bound
   merger_turn_said false = worker_line node.core.store_faults Merging _ _ (worker_says (working_luck luck) node.log node.core bound Merging node.merger)
 
+  deleter_turn_said : (down : Bool) → Turning node.core.store_faults (worker_turn_by down Deleting node.deleter with_deleter luck node)
+  deleter_turn_said true = still node.core bound
+  deleter_turn_said false = worker_line node.core.store_faults Deleting _ _ (worker_says (working_luck luck) node.log node.core bound Deleting node.deleter)
+
   collector_turn_said : (down : Bool) → Turning node.core.store_faults (collector_turn_by down luck node)
   collector_turn_said true = still node.core bound
   collector_turn_said false = collector_line node.core.store_faults _ _ (collector_says (collecting_luck luck) node.core bound)
@@ -327,6 +331,8 @@ module _ (luck : Luck) (node : Node) (bound : node.core.store_faults ≤ last_co
   full_said (RestartClient name) = still node.core bound
   full_said StepMerger = merger_turn_said node.down
   full_said RestartMerger = still node.core bound
+  full_said StepDeleter = deleter_turn_said node.down
+  full_said RestartDeleter = still node.core bound
   full_said StepCollector = collector_turn_said node.down
   full_said RestartCollector = still node.core bound
   full_said RestartNode =
@@ -343,6 +349,8 @@ quiet_count (RestartIndexer i) node = refl
 quiet_count (RestartClient name) node = refl
 quiet_count StepMerger node = refl
 quiet_count RestartMerger node = refl
+quiet_count StepDeleter node = refl
+quiet_count RestartDeleter node = refl
 quiet_count StepCollector node = refl
 quiet_count RestartCollector node = refl
 quiet_count RestartNode node = refl

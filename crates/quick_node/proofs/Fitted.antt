@@ -5,7 +5,7 @@ use Rattle.std.specs.List.{list_any}
 use Rattle.std.specs.Prelude.{◌||◌, if◌then◌else◌, nat_le, nat_lt, bytes_eq}
 use Rattle.node_run.specs.declared.drive.Accepts.{Accepts}
 use Rattle.node_run.specs.declared.drive.Accepts.TheVariants as accepts
-use Rattle.node_run.specs.Node.{Node, Line, At, Assign, StepIndexer, RestartIndexer, RestartClient, StepMerger, RestartMerger, StepCollector, RestartCollector, RestartNode, Open, StepClient}
+use Rattle.node_run.specs.Node.{Node, Line, At, Assign, StepIndexer, RestartIndexer, RestartClient, StepMerger, RestartMerger, StepDeleter, RestartDeleter, StepCollector, RestartCollector, RestartNode, Open, StepClient}
 use Rattle.node_run.specs.Standing.{accepts_of, accepts_client}
 use Rattle.quick_node.specs.Reading.{Fit, fits, falls_or_unknown, too_many_clients, fit_if, fit_of, client_fit, names_in, last_moment, max_clients}
 use Rattle.quick_node.specs.Running.{HasAnswered}
@@ -59,6 +59,8 @@ module _ (readers : ℕ) (lines : List Line) (node : Node) (has : HasAnswered re
   line_fits (RestartClient name) = client_fits name
   line_fits StepMerger = refl
   line_fits RestartMerger = refl
+  line_fits StepDeleter = refl
+  line_fits RestartDeleter = refl
   line_fits StepCollector = refl
   line_fits RestartCollector = refl
   line_fits RestartNode = refl

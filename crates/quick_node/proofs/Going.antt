@@ -8,7 +8,7 @@ use Rattle.byte_fields.specs.Causes.{Rose}
 use Rattle.node_run.specs.declared.drive.Accepts.TheVariants as accepts
 use Rattle.node_run.specs.Calm.{log_counts}
 use Rattle.node_run.specs.Lines.{Spells, outcome_text, printed}
-use Rattle.node_run.specs.Node.{Node, Line, At, Assign, StepIndexer, RestartIndexer, RestartClient, StepMerger, RestartMerger, StepCollector, RestartCollector, RestartNode, Open, StepClient, Outcome}
+use Rattle.node_run.specs.Node.{Node, Line, At, Assign, StepIndexer, RestartIndexer, RestartClient, StepMerger, RestartMerger, StepDeleter, RestartDeleter, StepCollector, RestartCollector, RestartNode, Open, StepClient, Outcome}
 use Rattle.node_run.specs.Standing.{accepts_of}
 use Rattle.node_run.specs.Telling.{MayTell}
 use Rattle.node_run.specs.Turns.{Turn}
@@ -66,6 +66,8 @@ few_more readers lines (RestartIndexer i) few f = few
 few_more readers lines (RestartClient name) few f = leb-true (length (with_client_name name (names_in [] lines))) max_clients (room_left _ f)
 few_more readers lines StepMerger few f = few
 few_more readers lines RestartMerger few f = few
+few_more readers lines StepDeleter few f = few
+few_more readers lines RestartDeleter few f = few
 few_more readers lines StepCollector few f = few
 few_more readers lines RestartCollector few f = few
 few_more readers lines RestartNode few f = few

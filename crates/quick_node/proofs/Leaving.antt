@@ -16,9 +16,9 @@ use Rattle.root_search.specs.declared.outcome.SearchStep.{SearchStep}
 use Rattle.split_collector.specs.Outcomes.{Outcome as CollectorOutcome}
 use Rattle.upkeep_run.specs.Outcomes.{UpkeepOutcome}
 use Rattle.upkeep_run.specs.declared.work.Aim.{Aim}
-use Rattle.upkeep_run.specs.declared.work.Aim.TheVariants.{Merging}
-use Rattle.node_run.specs.Node.{Node, Line, At, Assign, StepIndexer, RestartIndexer, RestartClient, StepMerger, RestartMerger, StepCollector, RestartCollector, RestartNode, Open, StepClient, Outcome}
-use Rattle.node_run.specs.Turns.{Luck, Turned, indexer_at, indexing_luck, searching_luck, collecting_luck, said_by_indexer, said_by_client, said_by_collector, said_by_worker, working_luck, with_merger, worker_turn_by, assign_at, indexer_turn_by, client_turn_by, collector_turn_by, client_named, open_by, restart_by, full_turn, quiet, or_quiet, turn_by, Turn}
+use Rattle.upkeep_run.specs.declared.work.Aim.TheVariants.{Deleting, Merging}
+use Rattle.node_run.specs.Node.{Node, Line, At, Assign, StepIndexer, RestartIndexer, RestartClient, StepMerger, RestartMerger, StepDeleter, RestartDeleter, StepCollector, RestartCollector, RestartNode, Open, StepClient, Outcome}
+use Rattle.node_run.specs.Turns.{Luck, Turned, indexer_at, indexing_luck, searching_luck, collecting_luck, said_by_indexer, said_by_client, said_by_collector, said_by_worker, working_luck, with_deleter, with_merger, worker_turn_by, assign_at, indexer_turn_by, client_turn_by, collector_turn_by, client_named, open_by, restart_by, full_turn, quiet, or_quiet, turn_by, Turn}
 use Rattle.node_run.proofs.CallTells.{AreLow}
 use Rattle.node_run.proofs.Moving.{assign_same, open_same, restart_same}
 use Rattle.quick_node.specs.Collects.{LineCollects}
@@ -99,6 +99,12 @@ module _ (luck : Luck) (node : Node) where
       let turn = worker_turn_by false Merging node.merger with_merger luck node in
       record { leaves = (worker_works (working_luck luck) node.log node.core Merging node.merger).leaves; did = worker_says node.core turn.node.core Merging _ }
 
+  deleter_leaves : (down : Bool) → LineLeaves node.core (worker_turn_by down Deleting node.deleter with_deleter luck node)
+  deleter_leaves true = stays (none Few tt (still node.core)) tt
+  deleter_leaves false =
+      let turn = worker_turn_by false Deleting node.deleter with_deleter luck node in
+      record { leaves = (worker_works (working_luck luck) node.log node.core Deleting node.deleter).leaves; did = worker_says node.core turn.node.core Deleting _ }
+
   module _ (some : 0 < length node.core.history) (low : AreLow (length node.core.history) node.core) where
     collector_leaves : (down : Bool) → Legal reads (history (collector_turn_by down luck node).node.core.history) → LineLeaves node.core (collector_turn_by down luck node)
     collector_leaves true legal = stays (none Few tt (still node.core)) tt
@@ -117,6 +123,8 @@ module _ (luck : Luck) (node : Node) where
     full_leaves (RestartClient name) legal = stays (none Few tt (still node.core)) tt
     full_leaves StepMerger legal = merger_leaves node.down
     full_leaves RestartMerger legal = stays (none Few tt (still node.core)) tt
+    full_leaves StepDeleter legal = deleter_leaves node.down
+    full_leaves RestartDeleter legal = stays (none Few tt (still node.core)) tt
     full_leaves StepCollector legal = collector_leaves node.down legal
     full_leaves RestartCollector legal = stays (none Few tt (still node.core)) tt
     full_leaves RestartNode legal =
@@ -135,6 +143,8 @@ quiet_same (RestartIndexer i) node = refl
 quiet_same (RestartClient name) node = refl
 quiet_same StepMerger node = refl
 quiet_same RestartMerger node = refl
+quiet_same StepDeleter node = refl
+quiet_same RestartDeleter node = refl
 quiet_same StepCollector node = refl
 quiet_same RestartCollector node = refl
 quiet_same RestartNode node = refl

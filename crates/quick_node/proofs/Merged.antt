@@ -39,8 +39,8 @@ use Rattle.upkeep_run.specs.Outcomes as said
 use Rattle.upkeep_run.specs.Places.{Held, Place, Work, fetching, held_facts, held_file, idle, row_numbers, staged, uploaded}
 use Rattle.upkeep_run.specs.Steps.{Luck, Stepped, fetch_by, grace_in, held_of, or_short, plan_by, plan_with, replace_by, rows_in, stage_by, step_place, step_work, step_worker, trouble_outcome, upload_by, work_in}
 use Rattle.upkeep_run.specs.declared.work.Aim.TheVariants.{Merging, Deleting}
-use Rattle.node_run.specs.Node.{Node, Line, At, Assign, StepIndexer, RestartIndexer, RestartClient, StepMerger, RestartMerger, StepCollector, RestartCollector, RestartNode, Open, StepClient, Outcome, client_said, collector_said, indexer_said, worker_said, worker_restarted, node_restarted, node_failed, world_fault, no_index}
-use Rattle.node_run.specs.Turns.{Luck as LineLuck, Turn, Turned, Turns, assign_at, client_named, client_turn_by, collector_turn_by, full_turn, indexer_at, indexer_turn_by, open_by, or_quiet, restart_by, said_by_client, said_by_collector, said_by_indexer, said_by_worker, turn_by, with_merger, worker_turn_by, working_luck}
+use Rattle.node_run.specs.Node.{Node, Line, At, Assign, StepIndexer, RestartIndexer, RestartClient, StepMerger, RestartMerger, StepDeleter, RestartDeleter, StepCollector, RestartCollector, RestartNode, Open, StepClient, Outcome, client_said, collector_said, indexer_said, worker_said, worker_restarted, node_restarted, node_failed, world_fault, no_index}
+use Rattle.node_run.specs.Turns.{Luck as LineLuck, Turn, Turned, Turns, assign_at, client_named, client_turn_by, collector_turn_by, full_turn, indexer_at, indexer_turn_by, open_by, or_quiet, restart_by, said_by_client, said_by_collector, said_by_indexer, said_by_worker, turn_by, with_deleter, with_merger, worker_turn_by, working_luck}
 use Rattle.node_run.proofs.CallMoves.{Grows, asked_and_looked_moves}
 use Rattle.node_run.proofs.Moving.{turn_later, turns_later}
 use Rattle.node_run.proofs.WorkerMoves.{fetched_same, planned_same, replaced_same, staged_same, uploaded_same}
@@ -404,23 +404,23 @@ record LineDid (start : Core) (clock : ℕ) (plan : List ℕ) (outcome : Outcome
   rests : Rests node.core.history clock (length start.history) (length node.core.history) outcome
   holds : Holds node.core.history planned node.merger
 
--- no worker said it, and it drops no plan
+-- no merger said it, and it drops no plan of one
 abbrev IsOther : Outcome → Type 0
-IsOther (worker_said aim outcome) = ⊥
-IsOther (worker_restarted aim) = ⊥
+IsOther (worker_said Merging outcome) = ⊥
+IsOther (worker_restarted Merging) = ⊥
 IsOther (node_restarted revision) = ⊥
 IsOther (node_failed fault) = ⊥
 IsOther outcome = ⊤
 
 other_replaces : (entries : List Entry) (clock least next : ℕ) (plan : List ℕ) (outcome : Outcome) → IsOther outcome → Replaces entries clock least next plan plan outcome
-other_replaces entries clock least next plan (worker_said aim outcome) h = absurd h
-other_replaces entries clock least next plan (worker_restarted aim) h = absurd h
+other_replaces entries clock least next plan (worker_said Merging outcome) h = absurd h
+other_replaces entries clock least next plan (worker_restarted Merging) h = absurd h
 other_replaces entries clock least next plan (node_restarted revision) h = absurd h
 other_replaces entries clock least next plan (node_failed fault) h = absurd h
 other_replaces entries clock least next plan outcome h = refl
 
 other_rests : (entries : List Entry) (clock least next : ℕ) (outcome : Outcome) → IsOther outcome → Rests entries clock least next outcome
-other_rests entries clock least next (worker_said aim outcome) h = absurd h
+other_rests entries clock least next (worker_said Merging outcome) h = absurd h
 other_rests entries clock least next outcome h = tt
 
 line_same : (a b : Outcome) → Some a ≡ Some b → a ≡ b
@@ -462,6 +462,10 @@ module _ (start : Core) (clock : ℕ) (plan : List ℕ) where
   collector_did None new h = unsaid_did new
   collector_did (Some said) new h = other_did (collector_said said) new tt h
 
+  deleter_did : (said : Option UpkeepOutcome) (new : Node) → Holds new.core.history plan new.merger → LineDidAll (record { said = said_by_worker Deleting said; node = new })
+  deleter_did None new h = unsaid_did new
+  deleter_did (Some said) new h = other_did (worker_said Deleting said) new tt h
+
   worker_did : (said : Option UpkeepOutcome) (new : Node) → ((outcome : UpkeepOutcome) → said ≡ Some outcome → Did start clock plan outcome new.merger new.core) → LineDidAll (record { said = said_by_worker Merging said; node = new })
   worker_did None new d = unsaid_did new
   worker_did (Some said) new d = λ outcome e.
@@ -496,6 +500,11 @@ module _ (luck : LineLuck) (node : Node) (clock : ℕ) (plan : List ℕ) (t : Is
       let turn = worker_turn_by false Merging node.merger with_merger luck node in
       worker_did node.core clock plan _ turn.node (step_did (working_luck luck) node.log node.core clock plan t told some node.merger h legal g)
 
+  deleter_line : (down : Bool) → FullDid (worker_turn_by down Deleting node.deleter with_deleter luck node)
+  deleter_line true legal g = other_did node.core clock plan _ node tt h
+  deleter_line false legal g =
+      let turn = worker_turn_by false Deleting node.deleter with_deleter luck node in deleter_did node.core clock plan _ turn.node (held_by turn.node refl legal g)
+
   assign_line : (place : indexing.Place) (i : ℕ) (names : List (List ℕ)) (indexer : indexing.Indexer) → FullDid (assign_at place i names indexer node)
   assign_line indexing.idle i names indexer legal g = let turn = assign_at indexing.idle i names indexer node in other_did node.core clock plan _ turn.node tt (held_by turn.node refl legal g)
   assign_line (indexing.reading batch) i names indexer legal g = other_did node.core clock plan _ node tt h
@@ -521,6 +530,8 @@ module _ (luck : LineLuck) (node : Node) (clock : ℕ) (plan : List ℕ) (t : Is
   full_did (RestartClient name) told legal g = let turn = full_turn luck node (RestartClient name) in other_did node.core clock plan _ turn.node tt h
   full_did StepMerger told legal g = merger_line node.down told legal g
   full_did RestartMerger told legal g = let turn = full_turn luck node RestartMerger in dropped_did node.core clock plan (worker_restarted Merging) turn.node refl tt refl
+  full_did StepDeleter told legal g = deleter_line node.down legal g
+  full_did RestartDeleter told legal g = let turn = full_turn luck node RestartDeleter in other_did node.core clock plan _ turn.node tt h
   full_did StepCollector told legal g = collector_line node.down legal g
   full_did RestartCollector told legal g = other_did node.core clock plan _ node tt h
   full_did RestartNode told legal g = let given = loaded luck.world node.core in restart_line given.answer given.core legal g
@@ -564,6 +575,8 @@ line_rises readers before (RestartIndexer i) e = tt
 line_rises readers before (RestartClient name) e = tt
 line_rises readers before StepMerger e = tt
 line_rises readers before RestartMerger e = tt
+line_rises readers before StepDeleter e = tt
+line_rises readers before RestartDeleter e = tt
 line_rises readers before StepCollector e = tt
 line_rises readers before RestartCollector e = tt
 line_rises readers before RestartNode e = tt

@@ -9,10 +9,10 @@ use Rattle.index_world.specs.Calls as calls
 use Rattle.index_world.specs.Core.{Core}
 use Rattle.indexing_run.specs.Places.{Place, idle, reading, staged, uploaded}
 use Rattle.root_search.specs.Steps.{Request, no_request, opened, planned, Plan, Client, step_client, without_request}
-use Rattle.upkeep_run.specs.declared.work.Aim.TheVariants.{Merging}
-use Rattle.node_run.specs.Node.{Node, Line, At, Assign, StepIndexer, RestartIndexer, RestartClient, StepMerger, RestartMerger, StepCollector, RestartCollector, RestartNode, Open, StepClient, Outcome}
+use Rattle.upkeep_run.specs.declared.work.Aim.TheVariants.{Deleting, Merging}
+use Rattle.node_run.specs.Node.{Node, Line, At, Assign, StepIndexer, RestartIndexer, RestartClient, StepMerger, RestartMerger, StepDeleter, RestartDeleter, StepCollector, RestartCollector, RestartNode, Open, StepClient, Outcome}
 use Rattle.node_run.specs.Turns as turning
-use Rattle.node_run.specs.Turns.{Turn, Turned, client_named, with_client, assign_at, indexer_at, indexer_turn_by, client_turn_by, collector_turn_by, searching_luck, open_by, restart_by, full_turn, or_quiet, turn_by, worker_turn_by, with_merger}
+use Rattle.node_run.specs.Turns.{Turn, Turned, client_named, with_client, assign_at, indexer_at, indexer_turn_by, client_turn_by, collector_turn_by, searching_luck, open_by, restart_by, full_turn, or_quiet, turn_by, worker_turn_by, with_deleter, with_merger}
 use Rattle.node_run.specs.Standing.{is_known}
 use Rattle.node_run.proofs.Names.{named_name, kept_by_request}
 use Rattle.node_run.proofs.Parts.{searched_name}
@@ -126,6 +126,10 @@ module _ (names : List (List ℕ)) (node : Node) (are : AreNamed names node.clie
   merger_named true luck = are
   merger_named false luck = are
 
+  deleter_named : (down : Bool) (luck : turning.Luck) → AreNamed names (worker_turn_by down Deleting node.deleter with_deleter luck node).node.clients
+  deleter_named true luck = are
+  deleter_named false luck = are
+
   collector_named : (down : Bool) (luck : turning.Luck) → AreNamed names (collector_turn_by down luck node).node.clients
   collector_named true luck = are
   collector_named false luck = are
@@ -171,6 +175,8 @@ module _ (names : List (List ℕ)) (node : Node) (are : AreNamed names node.clie
       kept_named names node.clients are name (without_request (client_named name node.clients)) (named_name name node.clients)
   full_named luck StepMerger = merger_named node.down luck
   full_named luck RestartMerger = are
+  full_named luck StepDeleter = deleter_named node.down luck
+  full_named luck RestartDeleter = are
   full_named luck StepCollector = collector_named node.down luck
   full_named luck RestartCollector = are
   full_named luck RestartNode = let given = loaded luck.world node.core in restart_named given.answer given.core
@@ -205,6 +211,8 @@ names_go_on names (RestartIndexer i ∷ lines) line = names_go_on names lines li
 names_go_on names (RestartClient name ∷ lines) line = names_go_on (with_client_name name names) lines line
 names_go_on names (StepMerger ∷ lines) line = names_go_on names lines line
 names_go_on names (RestartMerger ∷ lines) line = names_go_on names lines line
+names_go_on names (StepDeleter ∷ lines) line = names_go_on names lines line
+names_go_on names (RestartDeleter ∷ lines) line = names_go_on names lines line
 names_go_on names (StepCollector ∷ lines) line = names_go_on names lines line
 names_go_on names (RestartCollector ∷ lines) line = names_go_on names lines line
 names_go_on names (RestartNode ∷ lines) line = names_go_on names lines line
@@ -220,6 +228,8 @@ moments_go_on moment (RestartIndexer i ∷ lines) line = moments_go_on moment li
 moments_go_on moment (RestartClient name ∷ lines) line = moments_go_on moment lines line
 moments_go_on moment (StepMerger ∷ lines) line = moments_go_on moment lines line
 moments_go_on moment (RestartMerger ∷ lines) line = moments_go_on moment lines line
+moments_go_on moment (StepDeleter ∷ lines) line = moments_go_on moment lines line
+moments_go_on moment (RestartDeleter ∷ lines) line = moments_go_on moment lines line
 moments_go_on moment (StepCollector ∷ lines) line = moments_go_on moment lines line
 moments_go_on moment (RestartCollector ∷ lines) line = moments_go_on moment lines line
 moments_go_on moment (RestartNode ∷ lines) line = moments_go_on moment lines line

@@ -6,9 +6,9 @@ use Rattle.index_world.specs.Calls as calls
 use Rattle.index_world.specs.Core.{Core}
 use Rattle.indexing_run.specs.Places.{Place, idle, reading, staged, uploaded, Indexer}
 use Rattle.root_search.specs.Steps.{Request, no_request, opened, planned, Client}
-use Rattle.upkeep_run.specs.declared.work.Aim.TheVariants.{Merging}
-use Rattle.node_run.specs.Node.{Node, Line, At, Assign, StepIndexer, RestartIndexer, RestartClient, StepMerger, RestartMerger, StepCollector, RestartCollector, RestartNode, Open, StepClient, Outcome}
-use Rattle.node_run.specs.Turns.{Luck, Turned, indexer_at, assign_at, indexer_turn_by, client_turn_by, collector_turn_by, client_named, open_by, restart_by, full_turn, quiet, or_quiet, turn_by, Turn, Turns, worker_turn_by, with_merger}
+use Rattle.upkeep_run.specs.declared.work.Aim.TheVariants.{Deleting, Merging}
+use Rattle.node_run.specs.Node.{Node, Line, At, Assign, StepIndexer, RestartIndexer, RestartClient, StepMerger, RestartMerger, StepDeleter, RestartDeleter, StepCollector, RestartCollector, RestartNode, Open, StepClient, Outcome}
+use Rattle.node_run.specs.Turns.{Luck, Turned, indexer_at, assign_at, indexer_turn_by, client_turn_by, collector_turn_by, client_named, open_by, restart_by, full_turn, quiet, or_quiet, turn_by, Turn, Turns, worker_turn_by, with_deleter, with_merger}
 use Rattle.quick_node.specs.Running.{StopsShort, HasRun}
 use Rattle.quick_node.specs.Serve.{End, by_reading, no_index, opening_failed, read_failed, write_failed, out_of_memory}
 
@@ -41,6 +41,10 @@ merger_log : (down : Bool) (luck : Luck) (node : Node) → (worker_turn_by down 
 merger_log true luck node = refl
 merger_log false luck node = refl
 
+deleter_log : (down : Bool) (luck : Luck) (node : Node) → (worker_turn_by down Deleting node.deleter with_deleter luck node).node.log ≡ node.log
+deleter_log true luck node = refl
+deleter_log false luck node = refl
+
 collector_log : (down : Bool) (luck : Luck) (node : Node) → (collector_turn_by down luck node).node.log ≡ node.log
 collector_log true luck node = refl
 collector_log false luck node = refl
@@ -53,6 +57,8 @@ full_log luck node (RestartIndexer i) = refl
 full_log luck node (RestartClient name) = refl
 full_log luck node StepMerger = merger_log node.down luck node
 full_log luck node RestartMerger = refl
+full_log luck node StepDeleter = deleter_log node.down luck node
+full_log luck node RestartDeleter = refl
 full_log luck node StepCollector = collector_log node.down luck node
 full_log luck node RestartCollector = refl
 full_log luck node RestartNode = let given = loaded luck.world node.core in restart_log given.answer given.core node
@@ -67,6 +73,8 @@ quiet_log (RestartIndexer i) node = refl
 quiet_log (RestartClient name) node = refl
 quiet_log StepMerger node = refl
 quiet_log RestartMerger node = refl
+quiet_log StepDeleter node = refl
+quiet_log RestartDeleter node = refl
 quiet_log StepCollector node = refl
 quiet_log RestartCollector node = refl
 quiet_log RestartNode node = refl

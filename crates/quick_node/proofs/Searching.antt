@@ -34,10 +34,10 @@ use Rattle.upkeep_run.specs.Outcomes.{UpkeepOutcome}
 use Rattle.upkeep_run.specs.Places as workers
 use Rattle.upkeep_run.specs.Steps.{step_worker}
 use Rattle.upkeep_run.specs.declared.work.Aim.{Aim}
-use Rattle.upkeep_run.specs.declared.work.Aim.TheVariants.{Merging}
-use Rattle.node_run.specs.Node.{Node, Line, At, Assign, StepIndexer, RestartIndexer, RestartClient, StepMerger, RestartMerger, StepCollector, RestartCollector, RestartNode, Open, StepClient, Outcome, client_said}
+use Rattle.upkeep_run.specs.declared.work.Aim.TheVariants.{Deleting, Merging}
+use Rattle.node_run.specs.Node.{Node, Line, At, Assign, StepIndexer, RestartIndexer, RestartClient, StepMerger, RestartMerger, StepDeleter, RestartDeleter, StepCollector, RestartCollector, RestartNode, Open, StepClient, Outcome, client_said}
 use Rattle.node_run.specs.Turns as node_turns
-use Rattle.node_run.specs.Turns.{full_turn, turn_with, turn_by, or_quiet, quiet, Turn, Turns, Turned, client_named, with_client, keep_client, said_by_indexer, indexer_stepped, indexer_turn_by, said_by_client, client_turn_by, client_stepped, collecting_luck, said_by_collector, collector_turn_by, assign_at, open_by, restart_by, indexer_at, indexing_luck, searching_luck, working_luck, said_by_worker, worker_stepped, worker_turn_by, with_merger}
+use Rattle.node_run.specs.Turns.{full_turn, turn_with, turn_by, or_quiet, quiet, Turn, Turns, Turned, client_named, with_client, keep_client, said_by_indexer, indexer_stepped, indexer_turn_by, said_by_client, client_turn_by, client_stepped, collecting_luck, said_by_collector, collector_turn_by, assign_at, open_by, restart_by, indexer_at, indexing_luck, searching_luck, working_luck, said_by_worker, worker_stepped, worker_turn_by, with_deleter, with_merger}
 use Rattle.node_run.proofs.CallMoves.{Grows, same_grows, asked_and_looked_moves, each_moves, loaded_moves}
 use Rattle.node_run.proofs.CollectorMoves.{collector_moves}
 use Rattle.node_run.proofs.WorkerMoves.{worker_moves}
@@ -476,11 +476,22 @@ module _ (exit : List Entry) (least : ℕ) (knowns : List Known) (node : Node) (
   worker_said_goes aim None new log g same = unsaid_goes exit least knowns node StepMerger new
   worker_said_goes aim (Some o) new log g same = other_goes StepMerger _ new log g same refl tt
 
+  deleter_said_goes : (aim : Aim) (said : Option UpkeepOutcome) (new : Node) → new.log ≡ node.log → Grows node.core new.core → new.clients ≡ node.clients →
+      TurnGoes exit least knowns node StepDeleter (record { said = said_by_worker aim said; node = new })
+  deleter_said_goes aim None new log g same = unsaid_goes exit least knowns node StepDeleter new
+  deleter_said_goes aim (Some o) new log g same = other_goes StepDeleter _ new log g same refl tt
+
   merger_goes : (down : Bool) (luck : node_turns.Luck) → TurnGoes exit least knowns node StepMerger (worker_turn_by down Merging node.merger with_merger luck node)
   merger_goes true luck = other_goes StepMerger _ node refl (same_grows node.core node.core refl) refl refl tt
   merger_goes false luck =
       let step = step_worker Merging (working_luck luck) node.log node.merger node.core in
       worker_said_goes Merging step.outcome (worker_stepped Merging with_merger node step).node refl (worker_moves (working_luck luck) node.log node.core Merging node.merger).later.grows refl
+
+  deleter_goes : (down : Bool) (luck : node_turns.Luck) → TurnGoes exit least knowns node StepDeleter (worker_turn_by down Deleting node.deleter with_deleter luck node)
+  deleter_goes true luck = other_goes StepDeleter _ node refl (same_grows node.core node.core refl) refl refl tt
+  deleter_goes false luck =
+      let step = step_worker Deleting (working_luck luck) node.log node.deleter node.core in
+      deleter_said_goes Deleting step.outcome (worker_stepped Deleting with_deleter node step).node refl (worker_moves (working_luck luck) node.log node.core Deleting node.deleter).later.grows refl
 
   collector_said_goes : (said : Option CollectorOutcome) (core : Core) → Grows node.core core →
       TurnGoes exit least knowns node StepCollector (record { said = said_by_collector said; node = record node { core = core } })
@@ -509,6 +520,8 @@ module _ (exit : List Entry) (least : ℕ) (knowns : List Known) (node : Node) (
   full_goes luck (RestartClient name) l p = restarted_goes exit least knowns node name all _ refl tt
   full_goes luck StepMerger l p = merger_goes node.down luck
   full_goes luck RestartMerger l p = other_goes RestartMerger _ (with_merger workers.idle node) refl (same_grows node.core node.core refl) refl refl tt
+  full_goes luck StepDeleter l p = deleter_goes node.down luck
+  full_goes luck RestartDeleter l p = other_goes RestartDeleter _ (with_deleter workers.idle node) refl (same_grows node.core node.core refl) refl refl tt
   full_goes luck StepCollector l p = collector_goes node.down luck
   full_goes luck RestartCollector l p = other_goes RestartCollector _ node refl (same_grows node.core node.core refl) refl refl tt
   full_goes luck RestartNode l p =

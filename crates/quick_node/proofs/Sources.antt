@@ -26,9 +26,9 @@ use Rattle.split_collector.specs.Outcomes.{Outcome as CollectorOutcome}
 use Rattle.node_run.specs.Calm.{log_counts}
 use Rattle.upkeep_run.specs.Outcomes.{UpkeepOutcome}
 use Rattle.upkeep_run.specs.declared.work.Aim.{Aim}
-use Rattle.upkeep_run.specs.declared.work.Aim.TheVariants.{Merging}
-use Rattle.node_run.specs.Node.{Node, Line, At, Assign, StepIndexer, RestartIndexer, RestartClient, StepMerger, RestartMerger, StepCollector, RestartCollector, RestartNode, Open, StepClient, Outcome}
-use Rattle.node_run.specs.Turns.{Luck, Turned, made_idle, indexer_at, indexing_luck, said_by_indexer, said_by_client, said_by_collector, assign_at, indexer_turn_by, client_turn_by, client_named, collector_turn_by, open_by, restart_by, full_turn, quiet, or_quiet, turn_by, Turn, Turns, said_by_worker, worker_turn_by, with_merger}
+use Rattle.upkeep_run.specs.declared.work.Aim.TheVariants.{Deleting, Merging}
+use Rattle.node_run.specs.Node.{Node, Line, At, Assign, StepIndexer, RestartIndexer, RestartClient, StepMerger, RestartMerger, StepDeleter, RestartDeleter, StepCollector, RestartCollector, RestartNode, Open, StepClient, Outcome}
+use Rattle.node_run.specs.Turns.{Luck, Turned, made_idle, indexer_at, indexing_luck, said_by_indexer, said_by_client, said_by_collector, assign_at, indexer_turn_by, client_turn_by, client_named, collector_turn_by, open_by, restart_by, full_turn, quiet, or_quiet, turn_by, Turn, Turns, said_by_worker, worker_turn_by, with_deleter, with_merger}
 use Rattle.quick_node.specs.Faults.{Interval, AreBetween, source_told, log_told}
 use Rattle.quick_node.specs.Serve.{Before, End, by_reading, no_index, opening_failed, read_failed, write_failed, out_of_memory, IsFresh, Opens, Answers, Unopened, RanShort, Lives}
 use Rattle.quick_node.proofs.Calmed.{reader_counts}
@@ -305,6 +305,10 @@ module _ (i : ℕ) (node : Node) (within : i < length node.indexers) (bound : co
   merger_turn true luck = quiet_turn _ refl refl refl
   merger_turn false luck = quiet_turn _ (worker_quiet Merging _) refl refl
 
+  deleter_turn : (down : Bool) (luck : Luck) → Turns_ (worker_turn_by down Deleting node.deleter with_deleter luck node)
+  deleter_turn true luck = quiet_turn _ refl refl refl
+  deleter_turn false luck = quiet_turn _ (worker_quiet Deleting _) refl refl
+
   collector_turn : (down : Bool) (luck : Luck) → Turns_ (collector_turn_by down luck node)
   collector_turn true luck = quiet_turn _ refl refl refl
   collector_turn false luck = quiet_turn _ (collector_quiet _) refl refl
@@ -326,6 +330,8 @@ module _ (i : ℕ) (node : Node) (within : i < length node.indexers) (bound : co
   full_tells luck (RestartClient name) = quiet_turn _ refl refl refl
   full_tells luck StepMerger = merger_turn node.down luck
   full_tells luck RestartMerger = quiet_turn _ refl refl refl
+  full_tells luck StepDeleter = deleter_turn node.down luck
+  full_tells luck RestartDeleter = quiet_turn _ refl refl refl
   full_tells luck StepCollector = collector_turn node.down luck
   full_tells luck RestartCollector = quiet_turn _ refl refl refl
   full_tells luck RestartNode = let given = loaded luck.world node.core in restart_turn given.answer given.core
@@ -340,6 +346,8 @@ module _ (i : ℕ) (node : Node) (within : i < length node.indexers) (bound : co
   quiet_counts (RestartClient name) = refl
   quiet_counts StepMerger = refl
   quiet_counts RestartMerger = refl
+  quiet_counts StepDeleter = refl
+  quiet_counts RestartDeleter = refl
   quiet_counts StepCollector = refl
   quiet_counts RestartCollector = refl
   quiet_counts RestartNode = idle_counts node.indexers i
@@ -354,6 +362,8 @@ module _ (i : ℕ) (node : Node) (within : i < length node.indexers) (bound : co
   quiet_long (RestartClient name) = refl
   quiet_long StepMerger = refl
   quiet_long RestartMerger = refl
+  quiet_long StepDeleter = refl
+  quiet_long RestartDeleter = refl
   quiet_long StepCollector = refl
   quiet_long RestartCollector = refl
   quiet_long RestartNode = idle_long node.indexers

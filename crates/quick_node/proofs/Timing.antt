@@ -10,9 +10,9 @@ use Rattle.index_world.specs.Core.{Core}
 use Rattle.split_collector.specs.Outcomes.{Outcome as CollectorOutcome}
 use Rattle.split_collector.specs.Steps.{CallLuck, Luck as CollectingLuck, alone, end_at, ends_behind, first_fate, max_calls, other_fates, step_collector, turned}
 use Rattle.split_collector.specs.Turns.{Turn as CollectorTurn, ended, to_doom, to_list, to_mark, to_remove, to_sweep}
-use Rattle.upkeep_run.specs.declared.work.Aim.TheVariants.{Merging}
-use Rattle.node_run.specs.Node.{Node, Line, At, Assign, StepIndexer, RestartIndexer, RestartClient, StepMerger, RestartMerger, StepCollector, RestartCollector, RestartNode, Open, StepClient, Outcome}
-use Rattle.node_run.specs.Turns.{Luck, client_named, client_turn_by, collecting_luck, collector_turn_by, full_turn, indexer_at, indexer_turn_by, indexing_luck, or_quiet, searching_luck, turn_by, with_merger, worker_turn_by, working_luck, Turn}
+use Rattle.upkeep_run.specs.declared.work.Aim.TheVariants.{Deleting, Merging}
+use Rattle.node_run.specs.Node.{Node, Line, At, Assign, StepIndexer, RestartIndexer, RestartClient, StepMerger, RestartMerger, StepDeleter, RestartDeleter, StepCollector, RestartCollector, RestartNode, Open, StepClient, Outcome}
+use Rattle.node_run.specs.Turns.{Luck, assign_at, client_named, client_turn_by, collecting_luck, collector_turn_by, full_turn, indexer_at, indexer_turn_by, indexing_luck, open_by, or_quiet, searching_luck, turn_by, with_deleter, with_merger, worker_turn_by, working_luck, Turn}
 use Rattle.index_world.proofs.Worlds.{same-landed}
 use Rattle.node_run.proofs.CollectorMoves.{answered_same, unmade_same}
 use Rattle.node_run.proofs.Moving.{assign_same, open_same, restart_same}
@@ -223,6 +223,10 @@ module _ (luck : Luck) (node : Node) (t : IsTimed node.core) where
   merger_timed true = t
   merger_timed false = (worker_works (working_luck luck) node.log node.core Merging node.merger).timed t
 
+  deleter_timed : (down : Bool) → IsTimed (worker_turn_by down Deleting node.deleter with_deleter luck node).node.core
+  deleter_timed true = t
+  deleter_timed false = (worker_works (working_luck luck) node.log node.core Deleting node.deleter).timed t
+
   gathering_timed : (down : Bool) → IsTimed (collector_turn_by down luck node).node.core
   gathering_timed true = t
   gathering_timed false = collector_timed (collecting_luck luck) node.core t
@@ -235,6 +239,8 @@ module _ (luck : Luck) (node : Node) (t : IsTimed node.core) where
   full_timed (RestartClient name) le = t
   full_timed StepMerger le = merger_timed node.down
   full_timed RestartMerger le = t
+  full_timed StepDeleter le = deleter_timed node.down
+  full_timed RestartDeleter le = t
   full_timed StepCollector le = gathering_timed node.down
   full_timed RestartCollector le = t
   full_timed RestartNode le = let given = loaded luck.world node.core in same_timed given.core _ (restart_same given.answer given.core node) ((loaded_few luck.world node.core).timed t)

@@ -11,6 +11,7 @@ pub mod CaughtUp
 pub mod Collects
 pub mod Expires
 pub mod Replaces
+pub mod Applies
 pub mod Creating
 pub mod Reporting
 pub mod Opening

@@ -2,7 +2,7 @@
 use Rattle.std.specs.Prelude.{◌≡◌, ◌⊎◌, ℕ, suc, ◌+◌, ◌<◌, ◌≤◌, ◌==◌, Bool, true, false, List, [], ◌∷◌, ◌++◌, length, Option, Some, min, nat_le, nat_lt, if◌then◌else◌, bytes_eq}
 use Rattle.std.specs.List.{list_any}
 use Rattle.node_run.specs.Lines.{Spells}
-use Rattle.node_run.specs.Node.{Line, At, Assign, StepIndexer, RestartIndexer, RestartClient, StepMerger, RestartMerger, StepCollector, RestartCollector, RestartNode, Open, StepClient}
+use Rattle.node_run.specs.Node.{Line, At, Assign, StepIndexer, RestartIndexer, RestartClient, StepMerger, RestartMerger, StepDeleter, RestartDeleter, StepCollector, RestartCollector, RestartNode, Open, StepClient}
 
 abbrev pub onto_line : ℕ → List (List ℕ) → List (List ℕ)
 onto_line c [] = (c ∷ []) ∷ []
@@ -42,6 +42,8 @@ last_moment moment (RestartIndexer i ∷ lines) = last_moment moment lines
 last_moment moment (RestartClient name ∷ lines) = last_moment moment lines
 last_moment moment (StepMerger ∷ lines) = last_moment moment lines
 last_moment moment (RestartMerger ∷ lines) = last_moment moment lines
+last_moment moment (StepDeleter ∷ lines) = last_moment moment lines
+last_moment moment (RestartDeleter ∷ lines) = last_moment moment lines
 last_moment moment (StepCollector ∷ lines) = last_moment moment lines
 last_moment moment (RestartCollector ∷ lines) = last_moment moment lines
 last_moment moment (RestartNode ∷ lines) = last_moment moment lines
@@ -61,6 +63,8 @@ names_in names (RestartIndexer i ∷ lines) = names_in names lines
 names_in names (RestartClient name ∷ lines) = names_in (with_client_name name names) lines
 names_in names (StepMerger ∷ lines) = names_in names lines
 names_in names (RestartMerger ∷ lines) = names_in names lines
+names_in names (StepDeleter ∷ lines) = names_in names lines
+names_in names (RestartDeleter ∷ lines) = names_in names lines
 names_in names (StepCollector ∷ lines) = names_in names lines
 names_in names (RestartCollector ∷ lines) = names_in names lines
 names_in names (RestartNode ∷ lines) = names_in names lines
@@ -82,6 +86,8 @@ fit_of readers before (RestartIndexer i) = fit_if (nat_lt i readers) falls_or_un
 fit_of readers before (RestartClient name) = client_fit before name
 fit_of readers before StepMerger = fits
 fit_of readers before RestartMerger = fits
+fit_of readers before StepDeleter = fits
+fit_of readers before RestartDeleter = fits
 fit_of readers before StepCollector = fits
 fit_of readers before RestartCollector = fits
 fit_of readers before RestartNode = fits

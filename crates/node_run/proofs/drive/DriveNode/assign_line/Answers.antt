@@ -19,7 +19,7 @@ returns-in-Some-clause-does g c = λ firsts node p names.
     (assign_idle (indexer_at node.indexers c.args.number).place c.args.number c.args.partitions.now (indexer_at node.indexers c.args.number) node w.0
     ∙ ap (λ n. turned (said.assigned c.args.number n) (with_indexer c.args.number (record (indexer_at node.indexers c.args.number) { assignment = Some c.args.partitions.now }) node))
     (sym (c.in-Some.ensures.count ∙ ap length copy))) c.assigned.ensures
-    (placed_parts g.L.SourceLog.told g.L.SourceLog.fault_count g.L.SourceLog.since g.met.L.SourceLog.since_then firsts c.args.self.now.gate.world c.args.self.now.indexers.items c.args.self.now.merger.place c.args.self.now.clients.items c.args.self.now.places.entries c.args.self.now.moment c.args.self.now.down node p c.args.number c.index_mut.result.now c.assign.new.indexer (record (indexer_at node.indexers c.args.number) { assignment = Some c.args.partitions.now }) (omega (arith, c.requires, c.args.self.now.indexers.ok.0)) c.index_mut.ensures.value
+    (placed_parts g.L.SourceLog.told g.L.SourceLog.fault_count g.L.SourceLog.since g.met.L.SourceLog.since_then firsts c.args.self.now.gate.world c.args.self.now.indexers.items c.args.self.now.merger.place c.args.self.now.deleter.place c.args.self.now.clients.items c.args.self.now.places.entries c.args.self.now.moment c.args.self.now.down node p c.args.number c.index_mut.result.now c.assign.new.indexer (record (indexer_at node.indexers c.args.number) { assignment = Some c.args.partitions.now }) (omega (arith, c.requires, c.args.self.now.indexers.ok.0)) c.index_mut.ensures.value
     (subst (λ l. g.L.SourceLog.since c.index_mut.result.now.log l) (sym c.in-Some.ensures.log) (g.met.L.SourceLog.since_itself c.index_mut.result.now.log)) refl
     (subst (λ (ns : List (List ℕ)). IndexerStands g.L.SourceLog.told g.L.SourceLog.fault_count c.assign.new.indexer (record (indexer_at node.indexers c.args.number) { assignment = Some ns }) node.core node.log) copy w.1))
 
@@ -31,7 +31,7 @@ returns-in-None-clause-does g c = λ firsts node p names.
     (with_indexer c.args.number (indexer_at node.indexers c.args.number) node)
     (assign_busy (indexer_at node.indexers c.args.number).place c.args.number c.args.partitions.now (indexer_at node.indexers c.args.number) node w.0
     ∙ ap (λ ys. turned (said.indexer_busy c.args.number) (record node { indexers = ys })) (sym (set_self node.indexers c.args.number))) c.indexer_busy.ensures
-    (placed_parts g.L.SourceLog.told g.L.SourceLog.fault_count g.L.SourceLog.since g.met.L.SourceLog.since_then firsts c.args.self.now.gate.world c.args.self.now.indexers.items c.args.self.now.merger.place c.args.self.now.clients.items c.args.self.now.places.entries c.args.self.now.moment c.args.self.now.down node p c.args.number c.index_mut.result.now c.assign.new.indexer (indexer_at node.indexers c.args.number) (omega (arith, c.requires, c.args.self.now.indexers.ok.0)) c.index_mut.ensures.value
+    (placed_parts g.L.SourceLog.told g.L.SourceLog.fault_count g.L.SourceLog.since g.met.L.SourceLog.since_then firsts c.args.self.now.gate.world c.args.self.now.indexers.items c.args.self.now.merger.place c.args.self.now.deleter.place c.args.self.now.clients.items c.args.self.now.places.entries c.args.self.now.moment c.args.self.now.down node p c.args.number c.index_mut.result.now c.assign.new.indexer (indexer_at node.indexers c.args.number) (omega (arith, c.requires, c.args.self.now.indexers.ok.0)) c.index_mut.ensures.value
     (subst (λ l. g.L.SourceLog.since c.index_mut.result.now.log l) (sym c.in-None.ensures.log) (g.met.L.SourceLog.since_itself c.index_mut.result.now.log)) refl w.1)
 
 pub returns-in_err-partitions-clause-prints : goal.returns-in_err-partitions-clause-prints

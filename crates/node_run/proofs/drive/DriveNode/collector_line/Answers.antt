@@ -18,7 +18,7 @@ returns-in_err-outcome-clause-does g c = λ firsts node p.
     most_short g.L.SourceLog.told g.L.SourceLog.fault_count g.L.SourceLog.since firsts node said.StepCollector _ _ c.from_residual.result c.from_residual.ensures.1 (collecting_alone s)
     (record { said = said_by_collector s.outcome; node = record node { core = s.after } })
     (collector_turns node c.step_collector.new.gate.world _ (sym p.down ∙ c.if-self.false) s)
-    (collected_parts g.L.SourceLog.told g.L.SourceLog.fault_count g.L.SourceLog.since g.met.L.SourceLog.since_then firsts c.args.self.now.gate.world c.args.self.now.indexers.items c.args.self.now.merger.place c.args.self.now.clients.items c.args.self.now.places.entries c.args.self.now.moment c.args.self.now.down node p c.step_collector.new.gate.world _ s)
+    (collected_parts g.L.SourceLog.told g.L.SourceLog.fault_count g.L.SourceLog.since g.met.L.SourceLog.since_then firsts c.args.self.now.gate.world c.args.self.now.indexers.items c.args.self.now.merger.place c.args.self.now.deleter.place c.args.self.now.clients.items c.args.self.now.places.entries c.args.self.now.moment c.args.self.now.down node p c.step_collector.new.gate.world _ s)
 
 pub returns-clause-does : goal.returns-clause-does
 returns-clause-does g c = λ firsts node p.
@@ -28,7 +28,7 @@ returns-clause-does g c = λ firsts node p.
     (record node { core = s.after })
     (collector_turns node c.step_collector.new.gate.world _ (sym p.down ∙ c.if-self.false) s ∙ ap (λ o. record { said = said_by_collector o; node = record node { core = s.after } }) x.1)
     (c.collector-line.ensures.said x.0 x.2)
-    (collected_parts g.L.SourceLog.told g.L.SourceLog.fault_count g.L.SourceLog.since g.met.L.SourceLog.since_then firsts c.args.self.now.gate.world c.args.self.now.indexers.items c.args.self.now.merger.place c.args.self.now.clients.items c.args.self.now.places.entries c.args.self.now.moment c.args.self.now.down node p c.step_collector.new.gate.world _ s)
+    (collected_parts g.L.SourceLog.told g.L.SourceLog.fault_count g.L.SourceLog.since g.met.L.SourceLog.since_then firsts c.args.self.now.gate.world c.args.self.now.indexers.items c.args.self.now.merger.place c.args.self.now.deleter.place c.args.self.now.clients.items c.args.self.now.places.entries c.args.self.now.moment c.args.self.now.down node p c.step_collector.new.gate.world _ s)
 
 pub returns-then-self-clause-prints : goal.returns-then-self-clause-prints
 returns-then-self-clause-prints g c =

@@ -42,6 +42,16 @@ returns-in-RestartMerger-clause-does g c = λ firsts node s f.
     subst (λ (l : Line). DoesMost g.L.SourceLog.told g.L.SourceLog.fault_count g.L.SourceLog.since firsts node (seen l) c.restart_merger.result c.restart_merger.new.self) (sym c.in-RestartMerger.is)
     (c.restart_merger.ensures.does firsts node s)
 
+pub returns-in-Deleter-clause-does : goal.returns-in-Deleter-clause-does
+returns-in-Deleter-clause-does g c = λ firsts node s f.
+    subst (λ (l : Line). DoesMost g.L.SourceLog.told g.L.SourceLog.fault_count g.L.SourceLog.since firsts node (seen l) c.deleter_line.result c.deleter_line.new.self) (sym c.in-Deleter.is)
+    (c.deleter_line.ensures.does firsts node s)
+
+pub returns-in-RestartDeleter-clause-does : goal.returns-in-RestartDeleter-clause-does
+returns-in-RestartDeleter-clause-does g c = λ firsts node s f.
+    subst (λ (l : Line). DoesMost g.L.SourceLog.told g.L.SourceLog.fault_count g.L.SourceLog.since firsts node (seen l) c.restart_deleter.result c.restart_deleter.new.self) (sym c.in-RestartDeleter.is)
+    (c.restart_deleter.ensures.does firsts node s)
+
 pub returns-in-Collector-clause-does : goal.returns-in-Collector-clause-does
 returns-in-Collector-clause-does g c = λ firsts node s f.
     subst (λ (l : Line). DoesMost g.L.SourceLog.told g.L.SourceLog.fault_count g.L.SourceLog.since firsts node (seen l) c.collector_line.result c.collector_line.new.self) (sym c.in-Collector.is)
@@ -89,6 +99,14 @@ returns-in-Merger-clause-prints g c =
 pub returns-in-RestartMerger-clause-prints : goal.returns-in-RestartMerger-clause-prints
 returns-in-RestartMerger-clause-prints g c =
     subst (λ (l : Line). IfOk c.restart_merger.result (λ out. PrintsLine g.L.SourceLog.told g.L.SourceLog.fault_count (seen l) c.args.self.now c.restart_merger.new.self out.bytes)) (sym c.in-RestartMerger.is) c.restart_merger.ensures.prints
+
+pub returns-in-Deleter-clause-prints : goal.returns-in-Deleter-clause-prints
+returns-in-Deleter-clause-prints g c =
+    subst (λ (l : Line). IfOk c.deleter_line.result (λ out. PrintsLine g.L.SourceLog.told g.L.SourceLog.fault_count (seen l) c.args.self.now c.deleter_line.new.self out.bytes)) (sym c.in-Deleter.is) c.deleter_line.ensures.prints
+
+pub returns-in-RestartDeleter-clause-prints : goal.returns-in-RestartDeleter-clause-prints
+returns-in-RestartDeleter-clause-prints g c =
+    subst (λ (l : Line). IfOk c.restart_deleter.result (λ out. PrintsLine g.L.SourceLog.told g.L.SourceLog.fault_count (seen l) c.args.self.now c.restart_deleter.new.self out.bytes)) (sym c.in-RestartDeleter.is) c.restart_deleter.ensures.prints
 
 pub returns-in-Collector-clause-prints : goal.returns-in-Collector-clause-prints
 returns-in-Collector-clause-prints g c =

@@ -24,7 +24,7 @@ returns-in_err-outcome-clause-does g c = λ firsts node p.
     most_short g.L.SourceLog.told g.L.SourceLog.fault_count g.L.SourceLog.since firsts node (said.StepIndexer c.args.number) _ _ c.from_residual.result c.from_residual.ensures.1 (record { log = s.luck.log; world = s.luck.world; more = []; ends = []; inner = s.luck.short; early = false; short = false })
     (record { said = said_by_indexer c.args.number s.outcome; node = record (with_indexer c.args.number s.after node) { core = s.behind } })
     (indexer_turns g.L.SourceLog.told g.L.SourceLog.fault_count node c.args.number c.step_indexer.new.indexer c.step_indexer.new.gate.world _ (sym p.down ∙ c.if-self.false) s)
-    (stepped_parts g.L.SourceLog.told g.L.SourceLog.fault_count g.L.SourceLog.since g.met.L.SourceLog.since_then firsts c.args.self.now.gate.world c.args.self.now.indexers.items c.args.self.now.merger.place c.args.self.now.clients.items c.args.self.now.places.entries c.args.self.now.moment c.args.self.now.down node p c.args.number c.index_mut.result.now c.step_indexer.new.indexer c.step_indexer.new.gate.world _
+    (stepped_parts g.L.SourceLog.told g.L.SourceLog.fault_count g.L.SourceLog.since g.met.L.SourceLog.since_then firsts c.args.self.now.gate.world c.args.self.now.indexers.items c.args.self.now.merger.place c.args.self.now.deleter.place c.args.self.now.clients.items c.args.self.now.places.entries c.args.self.now.moment c.args.self.now.down node p c.args.number c.index_mut.result.now c.step_indexer.new.indexer c.step_indexer.new.gate.world _
     (omega (arith, c.requires, c.args.self.now.indexers.ok.0)) c.index_mut.ensures.value c.in_err-outcome.ensures.later s)
 
 pub returns-clause-does : goal.returns-clause-does
@@ -37,7 +37,7 @@ returns-clause-does g c = λ firsts node p.
     (record (with_indexer c.args.number s.after node) { core = s.behind })
     (indexer_turns g.L.SourceLog.told g.L.SourceLog.fault_count node c.args.number c.step_indexer.new.indexer c.step_indexer.new.gate.world _ (sym p.down ∙ c.if-self.false) s ∙ ap (λ o. record { said = said_by_indexer c.args.number o; node = record (with_indexer c.args.number s.after node) { core = s.behind } }) x.1)
     (c.indexer-line.ensures.said x.0 x.2)
-    (stepped_parts g.L.SourceLog.told g.L.SourceLog.fault_count g.L.SourceLog.since g.met.L.SourceLog.since_then firsts c.args.self.now.gate.world c.args.self.now.indexers.items c.args.self.now.merger.place c.args.self.now.clients.items c.args.self.now.places.entries c.args.self.now.moment c.args.self.now.down node p c.args.number c.index_mut.result.now c.step_indexer.new.indexer c.step_indexer.new.gate.world _
+    (stepped_parts g.L.SourceLog.told g.L.SourceLog.fault_count g.L.SourceLog.since g.met.L.SourceLog.since_then firsts c.args.self.now.gate.world c.args.self.now.indexers.items c.args.self.now.merger.place c.args.self.now.deleter.place c.args.self.now.clients.items c.args.self.now.places.entries c.args.self.now.moment c.args.self.now.down node p c.args.number c.index_mut.result.now c.step_indexer.new.indexer c.step_indexer.new.gate.world _
     (omega (arith, c.requires, c.args.self.now.indexers.ok.0)) c.index_mut.ensures.value c.in_ok-outcome.ensures.later s)
 
 pub returns-then-self-clause-prints : goal.returns-then-self-clause-prints

@@ -4,8 +4,9 @@ use Rattle.node_run.specs.Lines.{outcome_text}
 use Rattle.node_run.specs.Node as said
 use Rattle.node_run.specs.Printing.{PrintsMerger, worked_text}
 use Rattle.node_run.specs.Turns.{calm, said_by_worker, with_merger, worker_turn_by}
-use Rattle.node_run.proofs.Parts.{merged_parts, merger_turns, most_done, most_short, working_alone}
+use Rattle.node_run.proofs.Parts.{most_done, most_short}
 use Rattle.node_run.proofs.Printed.{if_ok_where, if_short, where_down, where_up}
+use Rattle.node_run.proofs.WorkerParts.{merged_parts, merger_turns, working_alone}
 use Rattle.node_run.proofs.Workers.{worked_some}
 use Rattle.node_run.proofs.drive.DriveNode.merger_line.Goals as goal
 
@@ -20,7 +21,7 @@ returns-in_err-outcome-clause-does g c = λ firsts node p.
     most_short g.L.SourceLog.told g.L.SourceLog.fault_count g.L.SourceLog.since firsts node said.StepMerger _ _ c.from_residual.result c.from_residual.ensures.1 (working_alone s)
     (record { said = said_by_worker Merging s.outcome; node = record (with_merger s.after node) { core = s.behind } })
     (merger_turns node c.step_merger.new.merger.place c.step_merger.new.gate.world _ (sym p.down ∙ c.if-self.false) s)
-    (merged_parts g.L.SourceLog.told g.L.SourceLog.fault_count g.L.SourceLog.since g.met.L.SourceLog.since_then firsts c.args.self.now.gate.world c.args.self.now.indexers.items c.args.self.now.merger.place c.args.self.now.clients.items c.args.self.now.places.entries c.args.self.now.moment c.args.self.now.down node p c.step_merger.new.merger.place c.step_merger.new.gate.world _ s)
+    (merged_parts g.L.SourceLog.told g.L.SourceLog.fault_count g.L.SourceLog.since firsts c.args.self.now.gate.world c.args.self.now.indexers.items c.args.self.now.merger.place c.args.self.now.deleter.place c.args.self.now.clients.items c.args.self.now.places.entries c.args.self.now.moment c.args.self.now.down node p c.step_merger.new.merger.place c.step_merger.new.gate.world _ s)
 
 pub returns-clause-does : goal.returns-clause-does
 returns-clause-does g c = λ firsts node p.
@@ -30,7 +31,7 @@ returns-clause-does g c = λ firsts node p.
     (record (with_merger s.after node) { core = s.behind })
     (merger_turns node c.step_merger.new.merger.place c.step_merger.new.gate.world _ (sym p.down ∙ c.if-self.false) s ∙ ap (λ o. record { said = said_by_worker Merging o; node = record (with_merger s.after node) { core = s.behind } }) x.1)
     (c.merger-line.ensures.said x.0 x.2)
-    (merged_parts g.L.SourceLog.told g.L.SourceLog.fault_count g.L.SourceLog.since g.met.L.SourceLog.since_then firsts c.args.self.now.gate.world c.args.self.now.indexers.items c.args.self.now.merger.place c.args.self.now.clients.items c.args.self.now.places.entries c.args.self.now.moment c.args.self.now.down node p c.step_merger.new.merger.place c.step_merger.new.gate.world _ s)
+    (merged_parts g.L.SourceLog.told g.L.SourceLog.fault_count g.L.SourceLog.since firsts c.args.self.now.gate.world c.args.self.now.indexers.items c.args.self.now.merger.place c.args.self.now.deleter.place c.args.self.now.clients.items c.args.self.now.places.entries c.args.self.now.moment c.args.self.now.down node p c.step_merger.new.merger.place c.step_merger.new.gate.world _ s)
 
 pub returns-then-self-clause-prints : goal.returns-then-self-clause-prints
 returns-then-self-clause-prints g c =

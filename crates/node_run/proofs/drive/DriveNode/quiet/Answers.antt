@@ -25,6 +25,14 @@ pub returns-in-RestartMerger : goal.returns-in-RestartMerger
 returns-in-RestartMerger g c = λ firsts node p.
     quiet_along {S = g.row.S.Denot} g.L.SourceLog.told g.L.SourceLog.fault_count g.L.SourceLog.since firsts node c.args.line.now _ c.quiet_merger-in-RestartMerger.new.self c.in-RestartMerger.is (c.quiet_merger-in-RestartMerger.ensures firsts node p)
 
+pub returns-in-Deleter : goal.returns-in-Deleter
+returns-in-Deleter g c = λ firsts node p.
+    quiet_along {S = g.row.S.Denot} g.L.SourceLog.told g.L.SourceLog.fault_count g.L.SourceLog.since firsts node c.args.line.now _ c.quiet_deleter.new.self c.in-Deleter.is (c.quiet_deleter.ensures firsts node p)
+
+pub returns-in-RestartDeleter : goal.returns-in-RestartDeleter
+returns-in-RestartDeleter g c = λ firsts node p.
+    quiet_along {S = g.row.S.Denot} g.L.SourceLog.told g.L.SourceLog.fault_count g.L.SourceLog.since firsts node c.args.line.now _ c.quiet_deleter-in-RestartDeleter.new.self c.in-RestartDeleter.is (c.quiet_deleter-in-RestartDeleter.ensures firsts node p)
+
 pub returns-in-Collector : goal.returns-in-Collector
 returns-in-Collector g c = λ firsts node p.
     quiet_along {S = g.row.S.Denot} g.L.SourceLog.told g.L.SourceLog.fault_count g.L.SourceLog.since firsts node c.args.line.now _ c.args.self.now c.in-Collector.is p

@@ -20,7 +20,7 @@ returns-in-Ok-clause-does g c = λ firsts node p.
     most_done g.L.SourceLog.told g.L.SourceLog.fault_count g.L.SourceLog.since firsts node said.RestartNode _ c.node_restarted.result (record calm { world = l.loads.fate }) (said.node_restarted c.revision.result) last
     (ap (restart_given node) l.loads.did ∙ ap (λ a. restart_by a l.after node) (was_loaded l.answer l.after l.says)
     ∙ ap (λ n. turned (said.node_restarted n) last) (sym revision)) c.node_restarted.ensures
-    (loaded_parts g.L.SourceLog.told g.L.SourceLog.fault_count g.L.SourceLog.since firsts c.stop.new.self.gate.world c.reload.new.self c.stop.new.self.indexers.items c.stop.new.self.merger.place c.stop.new.self.clients.items c.stop.new.self.places.entries c.stop.new.self.moment
+    (loaded_parts g.L.SourceLog.told g.L.SourceLog.fault_count g.L.SourceLog.since firsts c.stop.new.self.gate.world c.reload.new.self c.stop.new.self.indexers.items c.stop.new.self.merger.place c.stop.new.self.deleter.place c.stop.new.self.clients.items c.stop.new.self.places.entries c.stop.new.self.moment
     c.stop.new.self.down false false node l.after l.loads.fate l.answer q l.loads.did l.loads.keeps l.stands refl)
 
 pub returns-in-Err-clause-does : goal.returns-in-Err-clause-does
@@ -29,7 +29,7 @@ returns-in-Err-clause-does g c = λ firsts node p.
     let l = c.in-Err.ensures.step node.core node.log q.world_stands in
     failed_restart g.L.SourceLog.told g.L.SourceLog.fault_count g.L.SourceLog.since firsts node _ (record calm { world = l.loads.fate }) l.after c.in-Err.error c.fault_line.result l.answer
     (ap (restart_given node) l.loads.did) l.says
-    (loaded_parts g.L.SourceLog.told g.L.SourceLog.fault_count g.L.SourceLog.since firsts c.stop.new.self.gate.world c.reload.new.self c.stop.new.self.indexers.items c.stop.new.self.merger.place c.stop.new.self.clients.items c.stop.new.self.places.entries c.stop.new.self.moment
+    (loaded_parts g.L.SourceLog.told g.L.SourceLog.fault_count g.L.SourceLog.since firsts c.stop.new.self.gate.world c.reload.new.self c.stop.new.self.indexers.items c.stop.new.self.merger.place c.stop.new.self.deleter.place c.stop.new.self.clients.items c.stop.new.self.places.entries c.stop.new.self.moment
     c.stop.new.self.down c.stop.new.self.down true node l.after l.loads.fate l.answer q l.loads.did l.loads.keeps l.stands q.down)
     c.fault_line.ensures.memory c.fault_line.ensures.fault c.fault_line.ensures.none
 
