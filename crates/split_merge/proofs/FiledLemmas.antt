@@ -17,7 +17,8 @@ use Rattle.split_build.specs.Facts.{AreFacts}
 use Rattle.split_build.specs.Filed.{IsFileOf, parts_of}
 use Rattle.split_build.specs.Limits.{AreWithin, most}
 use Rattle.split_build.specs.Sections.{ArePartsOf}
-use Rattle.split_build.specs.Tags.{AreTagsOf, tag_numbers}
+use Rattle.split_build.specs.Tags.{AreTagsOf}
+use Rattle.split_bundle.specs.Tagged.{tag_numbers}
 use Rattle.split_build.specs.Times.{AreTimes, seconds_in}
 use Rattle.split_build.specs.WrittenTerms.{AreTermParts}
 use Rattle.split_build.proofs.BuiltLemmas.{is_split}

@@ -1,7 +1,7 @@
 use Rattle.std.proofs.Common.{◌∙◌, ◌<◌, ◌^◌, List, ℕ, ap, refl, subst, sym, length, arith}
 use Rattle.sha2.specs.Sha256.{sha256}
 use Rattle.split_build.specs.declared.term_parts.TermParts.{TermParts}
-use Rattle.split_build.specs.Tags.{tag_numbers}
+use Rattle.split_bundle.specs.Tagged.{tag_numbers}
 use Rattle.split_build.specs.WrittenTerms.{AreTermParts}
 use Rattle.split_merge.proofs.FiledLemmas.{are_facts, holds_documents, is_built, length-so_many, so_many, to_write}
 use Rattle.split_merge.proofs.kept.KeptDocuments.finish.Goals as goal
