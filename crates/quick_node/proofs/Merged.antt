@@ -37,10 +37,10 @@ use Rattle.split_collector.specs.Outcomes.{Outcome as CollectorOutcome}
 use Rattle.upkeep_run.specs.Outcomes.{UpkeepOutcome}
 use Rattle.upkeep_run.specs.Outcomes as said
 use Rattle.upkeep_run.specs.Places.{Held, Place, Work, fetching, held_facts, held_file, idle, row_numbers, staged, uploaded}
-use Rattle.upkeep_run.specs.Steps.{Luck, Stepped, fetch_by, grace_in, held_of, or_short, plan_by, plan_with, replace_by, rows_in, stage_by, step_place, step_work, step_worker, trouble_outcome, upload_by, work_in}
+use Rattle.upkeep_run.specs.Steps.{WorkerLuck, Stepped, fetch_by, grace_in, held_of, or_short, plan_by, plan_with, replace_by, rows_in, stage_by, step_place, step_work, step_worker, trouble_outcome, upload_by, work_in}
 use Rattle.upkeep_run.specs.declared.work.Aim.TheVariants.{Merging, Deleting}
 use Rattle.node_run.specs.Node.{Node, Line, At, Assign, StepIndexer, RestartIndexer, RestartClient, StepMerger, RestartMerger, StepDeleter, RestartDeleter, StepCollector, RestartCollector, RestartNode, Open, StepClient, Outcome, client_said, collector_said, indexer_said, worker_said, worker_restarted, node_restarted, node_failed, world_fault, no_index}
-use Rattle.node_run.specs.Turns.{Luck as LineLuck, Turn, Turned, Turns, assign_at, client_named, client_turn_by, collector_turn_by, full_turn, indexer_at, indexer_turn_by, open_by, or_quiet, restart_by, said_by_client, said_by_collector, said_by_indexer, said_by_worker, turn_by, with_deleter, with_merger, worker_turn_by, working_luck}
+use Rattle.node_run.specs.Turns.{LineLuck, Turn, Turned, Turns, assign_at, client_named, client_turn_by, collector_turn_by, full_turn, indexer_at, indexer_turn_by, open_by, or_quiet, restart_by, said_by_client, said_by_collector, said_by_indexer, said_by_worker, turn_by, with_deleter, with_merger, worker_turn_by, working_luck}
 use Rattle.node_run.proofs.CallMoves.{Grows, asked_and_looked_moves}
 use Rattle.node_run.proofs.Moving.{turn_later, turns_later}
 use Rattle.node_run.proofs.WorkerMoves.{fetched_same, planned_same, replaced_same, staged_same, uploaded_same}
@@ -50,7 +50,7 @@ use Rattle.quick_node.specs.Serve.{IsPrefixOf, Before, After, End, by_reading, n
 use Rattle.quick_node.proofs.Clocks.{turn_ticks}
 use Rattle.quick_node.proofs.EntryRows.{legal_before}
 use Rattle.quick_node.proofs.Files.{IsTimed, appended_few, asked_and_looked_one, begun_still, loaded_few}
-use Rattle.quick_node.proofs.Living.{opens_moves}
+use Rattle.quick_node.proofs.NodeAtEnd.{opens_moves}
 use Rattle.quick_node.proofs.MergeCalls.{Appends, Picks, appended_says, is_crowded, is_hindered, is_refused, picks, picks_none}
 use Rattle.quick_node.proofs.Names.{moments_go_on}
 use Rattle.quick_node.proofs.Searching.{prefix_on}
@@ -338,7 +338,7 @@ module _ (start : Core) (clock : ℕ) (plan : List ℕ) where
 
 -- ---- what a step of the machine did
 
-module _ (luck : Luck) (log : Log) (start : Core) (clock : ℕ) (plan : List ℕ) (t : IsTimed start) (told : start.clock ≡ clock) (some : 0 < length start.history) where
+module _ (luck : WorkerLuck) (log : Log) (start : Core) (clock : ℕ) (plan : List ℕ) (t : IsTimed start) (told : start.clock ≡ clock) (some : 0 < length start.history) where
   abbrev DidAll : Stepped → Type 0
   DidAll step = Legal reads (history step.core.history) → Grows start step.core → DidStep start clock plan step
 
