@@ -1,0 +1,5 @@
+pub mod Recording
+pub mod Lives
+pub mod Owners
+pub mod Premises
+pub mod Turning

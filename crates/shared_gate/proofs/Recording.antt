@@ -1,0 +1,53 @@
+-- What a call of a recorded world leaves.
+use Rattle.std.proofs.Common.{◌≡◌, ◌<◌, ◌≤◌, ◌^◌, ℕ, List, [], ◌∷◌, ◌++◌, refl, sym, ap, ◌∙◌, subst, inl, inr}
+use Rattle.std.specs.Prelude.{Option, Some, None, Result, Ok, Err, Bool, true, false}
+use Rattle.std.specs.declared.alloc.AllocError.{AllocError}
+use Rattle.source_log.specs.Log.{Log}
+use Rattle.index_world.specs.Calls.{Fate, Trouble, Gives, gives}
+use Rattle.index_world.specs.CallsMade.{Ask}
+use Rattle.index_world.specs.Collecting.{sweep_call}
+use Rattle.index_world.specs.Core.{Core, last_count}
+use Rattle.index_world.specs.Gate.{ActsWith, IsTrouble, IsGiven}
+use Rattle.index_world.specs.World.{Keeping, WorldStands}
+use Rattle.index_world.specs.declared.world_error.WorldError.{WorldError}
+use Rattle.index_world.specs.declared.world_error.WorldError.TheVariants as errors
+use Rattle.shared_gate.specs.Recording.{Acting, ActingWith, Always, Entered, IsCalled, IsNoted, Unheard, set_to, swept_call}
+use Rattle.shared_gate.specs.declared.call.Call.{Call}
+use Rattle.shared_gate.specs.declared.recorded.Event.{Event}
+use Rattle.shared_gate.specs.declared.recorded.Recorded.{Recorded}
+
+module _ {S K L : Type 0} where
+  pub unheard : {A : Type 0} (error : AllocError) (old new : Recorded S K L) → old.world.store_faults ≤ last_count → new.world ≡ old.world
+      → (new.events.items ≡ old.events.items) × (new.opened.value ≡ old.opened.value) × (new.source.value ≡ old.source.value) → Unheard {A = A} (Err (errors.Memory error)) old new
+  unheard error old new within world same = record { error = error; is = refl; within = within; world = world; events = same.0; opened = same.1; source = same.2 }
+
+  pub entered : (ask : Ask) (staged uploaded : Option ℕ) (base : ℕ) (Act : Keeping → Keeping → Type 0) (call : Call) (old ready before new : Recorded S K L)
+      → (clock : ℕ) × (clock < 2 ^ 62) × (ready.world ≡ set_to clock old.world)
+      → (ready.events.items ≡ old.events.items) × (ready.opened.value ≡ old.opened.value) × (ready.source.value ≡ old.source.value)
+      → (before.events.items ≡ ready.events.items) × (before.opened.value ≡ ready.opened.value) × (before.source.value ≡ ready.source.value)
+      → Act ready.world before.world → IsCalled ask staged uploaded call → IsNoted call base before new → Entered ask staged uploaded base Act old new
+  entered ask staged uploaded base Act call old ready before new asked same stays acts called noted =
+      let world : before.world ≡ new.world = sym noted.world in
+      record {
+        clock = asked.0;
+        low = asked.1;
+        acts = subst (λ (w : Keeping). Act (set_to asked.0 old.world) w) world (subst (λ (w : Keeping). Act w before.world) asked.2 acts);
+        event = noted.event;
+        called = subst (λ (c : Call). IsCalled ask staged uploaded c) (sym noted.call_is) called;
+        base_is = noted.base_is;
+        left_is = noted.left_is ∙ world;
+        events = noted.events ∙ ap (λ (l : List (Event S)). l ++ noted.event ∷ []) (stays.0 ∙ same.0);
+        opened = noted.opened ∙ stays.1 ∙ same.1;
+        source = noted.source ∙ stays.2 ∙ same.2;
+      }
+
+-- a sweep that asked for no memory
+asks_memory : Fate → Fate
+asks_memory fate = record fate { unasked = false }
+
+pub swept : (number : ℕ) (result : Result Bool WorldError) (old new : Keeping)
+    → ((core : Core) (log : Log) → WorldStands old core log → ActsWith WorldStands None (sweep_call number) IsTrouble IsGiven result core log new)
+    → ActingWith Always None (swept_call number) IsTrouble IsGiven result old new
+swept number result old new step core log s given =
+    let a = step core log s in
+    record { fate = asks_memory a.fate; answer = a.answer; after = a.after; did = a.did; says = a.says; goes_on = a.goes_on; stands = a.stands }
