@@ -3,3 +3,4 @@ pub mod Lives
 pub mod Owners
 pub mod Premises
 pub mod Turning
+pub mod Doing

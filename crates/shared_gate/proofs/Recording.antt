@@ -47,7 +47,7 @@ asks_memory fate = record fate { unasked = false }
 
 pub swept : (number : ℕ) (result : Result Bool WorldError) (old new : Keeping)
     → ((core : Core) (log : Log) → WorldStands old core log → ActsWith WorldStands None (sweep_call number) IsTrouble IsGiven result core log new)
-    → ActingWith Always None (swept_call number) IsTrouble IsGiven result old new
+    → ActingWith Always None (swept_call number) IsTrouble (λ core. IsGiven) result old new
 swept number result old new step core log s given =
     let a = step core log s in
     record { fate = asks_memory a.fate; answer = a.answer; after = a.after; did = a.did; says = a.says; goes_on = a.goes_on; stands = a.stands }

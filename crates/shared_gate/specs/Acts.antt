@@ -74,19 +74,19 @@ abbrev pub plan_act : Choice → Result Plan WorldError → Keeping → Keeping 
 plan_act choice result = Answering (plan_answered choice result) (Acting Always None asked_and_looked IsTrouble (λ core. IsPlan choice) result)
 
 abbrev pub mark_stale_act : Result ℕ WorldError → Keeping → Keeping → Type 0
-mark_stale_act result = Answering (mark_stale_answered result) (ActingWith Always None mark_stale_call IsUnmade IsGiven result)
+mark_stale_act result = Answering (mark_stale_answered result) (ActingWith Always None mark_stale_call IsUnmade (λ core. IsGiven) result)
 
 abbrev pub doom_act : Result (Option ℕ) WorldError → Keeping → Keeping → Type 0
-doom_act result = Answering (doom_answered result) (ActingWith Always None doom_call IsTrouble IsGiven result)
+doom_act result = Answering (doom_answered result) (ActingWith Always None doom_call IsTrouble (λ core. IsGiven) result)
 
 abbrev pub remove_act : Result ℕ WorldError → Keeping → Keeping → Type 0
-remove_act result = Answering (remove_answered result) (ActingWith Always None remove_call IsUnmade IsGiven result)
+remove_act result = Answering (remove_answered result) (ActingWith Always None remove_call IsUnmade (λ core. IsGiven) result)
 
 abbrev pub list_act : Option (List ℕ) → Result SweepPage WorldError → Keeping → Keeping → Type 0
 list_act behind result = Answering (list_answered behind result) (Acting Always None list_call IsTrouble (λ core. IsSweepPage behind) result)
 
 abbrev pub sweep_act : ℕ → Result Bool WorldError → Keeping → Keeping → Type 0
-sweep_act number result = Answering (sweep_answered number result) (ActingWith Always None (swept_call number) IsTrouble IsGiven result)
+sweep_act number result = Answering (sweep_answered number result) (ActingWith Always None (swept_call number) IsTrouble (λ core. IsGiven) result)
 
 abbrev pub configured_as : IndexConfig → Log → Core → Type 0
 configured_as config log core = IsConfigured config core

@@ -236,6 +236,6 @@ abbrev pub Acting : {E A : Type 0} → (Log → Core → Type 0) → Option ℕ 
 Acting Given one call is holds result old new =
     (core : Core) (log : Log) → WorldStands old core log → Given log core → Acts WorldStands one call is (holds core) result core log new
 
-abbrev pub ActingWith : {E A B : Type 0} → (Log → Core → Type 0) → Option ℕ → (Fate → Core → Gives E B) → (WorldError → E → Type 0) → (A → B → Core → Type 0) → Result A WorldError → Keeping → Keeping → Type 0
+abbrev pub ActingWith : {E A B : Type 0} → (Log → Core → Type 0) → Option ℕ → (Fate → Core → Gives E B) → (WorldError → E → Type 0) → (Core → A → B → Core → Type 0) → Result A WorldError → Keeping → Keeping → Type 0
 ActingWith Given one call is holds result old new =
-    (core : Core) (log : Log) → WorldStands old core log → Given log core → ActsWith WorldStands one call is holds result core log new
+    (core : Core) (log : Log) → WorldStands old core log → Given log core → ActsWith WorldStands one call is (holds core) result core log new
