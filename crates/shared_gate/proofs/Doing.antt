@@ -19,8 +19,8 @@ use Rattle.index_world.specs.DirectLaws.{stays_as_is}
 use Rattle.index_world.specs.declared.world_error.WorldError.{WorldError}
 use Rattle.index_world.specs.declared.world_error.WorldError.TheVariants as errors
 use Rattle.index_world.proofs.Gates.{clocked}
-use Rattle.shared_gate.specs.Recording.{Acting, ActingWith, Answering, Begun, Entered, IsNewNumber, RanBy, Records, TellsOn, Unheard, WasStagedBy, clocked_at, last_world, set_to}
-use Rattle.shared_gate.specs.Sharing.{AtPlaces, HasCall, IsUnheard, Passes, Seat, SeatAdds, SeatAnswers, SeatBegins, SeatOwns, SeatSince, SeatStands, base_of, home_behind, last_core, seat_told, world_of}
+use Rattle.shared_gate.specs.Recording.{Acting, ActingWith, Answering, Begun, Entered, IsNewNumber, RanBy, Records, TellsOn, Unheard, WasStagedBy, base_of, clocked_at, last_world, set_to}
+use Rattle.shared_gate.specs.Sharing.{AtPlaces, HasCall, IsUnheard, Passes, Seat, SeatAdds, SeatAnswers, SeatBegins, SeatOwns, SeatSince, SeatStands, last_core, seat_told, world_of}
 use Rattle.shared_gate.specs.declared.recorded.Recorded.{Recorded}
 use Rattle.shared_gate.specs.declared.recorded.Event.{Event}
 use Rattle.shared_gate.proofs.Lives.{tells_on}
@@ -131,7 +131,7 @@ ran_by ask call ran fate core answer after did = subst (λ (c : Core). RanBy ask
 
 module _ {Lock S K L : Type 0} (told : L → Option Log) where
   -- what the end of a turn made of a seat
-  pub record Took (old new : Seat Lock S L) (lent last : Recorded S K L) : Type 0 where
+  pub record Took (old new : Seat Lock S L) (new_home : Option ℕ) (lent last : Recorded S K L) : Type 0 where
     pub lock : new.lock ≡ old.lock
     pub opened : new.opened ≡ old.opened
     pub source : new.source ≡ old.source
@@ -140,7 +140,7 @@ module _ {Lock S K L : Type 0} (told : L → Option Log) where
     pub places : new.places ≡ old.places ++ run_of (length lent.events.items) (length last.events.items - length lent.events.items)
     pub parts : new.parts ≡ old.parts
     pub left : new.left ≡ old.left
-    pub home : new.home ≡ home_behind old.home (length lent.events.items) (length last.events.items)
+    pub home : new.home ≡ new_home
     pub rises : Rises old.places → Rises new.places
 
   -- how a call came to its turn, and what was recorded of it
@@ -151,7 +151,7 @@ module _ {Lock S K L : Type 0} (told : L → Option Log) where
     pub own : SeatAdds old made new
     pub once : IsRecorded ask mid after short made
 
-  module _ (old new : Seat Lock S L) (lent last : Recorded S K L) (l : IsLent told old lent) (back : GivenBack told old lent last) (t : Took old new lent last) where
+  module _ (old new : Seat Lock S L) (new_home : Option ℕ) (lent last : Recorded S K L) (l : IsLent told old lent) (back : GivenBack told old new_home lent last) (t : Took old new new_home lent last) where
     pub since_of : SeatSince old new
     since_of = record {
       lock = t.lock;
@@ -161,7 +161,7 @@ module _ {Lock S K L : Type 0} (told : L → Option Log) where
       seen = subst (λ (es : List (Event S)). IsPrefix old.seen es) (sym t.seen) (prefix_trans old.seen lent.events.items last.events.items l.seen back.seen);
       parts = t.parts;
       left = t.left;
-      home = λ home is. t.home ∙ ap (λ (o : Option ℕ). home_behind o (length lent.events.items) (length last.events.items)) is;
+      home = λ home is. t.home ∙ back.home_stays home is;
       rises = t.rises;
     }
 
@@ -179,7 +179,7 @@ module _ {Lock S K L : Type 0} (told : L → Option Log) where
     }
 
     -- nothing was recorded
-    unheard_turned : {A : Type 0} (ask : Ask) (result : Result A WorldError) (u : Unheard result lent last) (core : Core) (log : Log) (met : Met told old lent core log)
+    unheard_turned : {A : Type 0} (ask : Ask) (result : Result A WorldError) (u : Unheard result old.home new_home lent last) (core : Core) (log : Log) (met : Met told old lent core log)
         → Turned old new ask (IsShort result) core (last_core core met.steps) (last_core core met.steps)
     unheard_turned ask result u core log met =
         let long : length last.events.items ≡ length lent.events.items = ap length u.events in
@@ -196,7 +196,7 @@ module _ {Lock S K L : Type 0} (told : L → Option Log) where
     unused_clocked core clock number u = record { staged = u.staged; unshown = u.unshown; absent = u.absent; not_late = u.not_late }
 
     -- one call was recorded, as what it left
-    entered_turned : (short : Type 0) (ask : Ask) (staged one : Option ℕ) (base : ℕ) (Act : Keeping → Keeping → Type 0) (x : Entered ask staged one base Act lent last) (core after : Core) (log : Log) (met : Met told old lent core log)
+    entered_turned : (short : Type 0) (ask : Ask) (staged one : Option ℕ) (Act : Keeping → Keeping → Type 0) (x : Entered ask staged one Act old.home new_home lent last) (core after : Core) (log : Log) (met : Met told old lent core log)
         → WorldStands last.world after log → Turned old new ask short core (clocked_at x.clock (last_core core met.steps)) after
     entered_turned short ask staged one base Act x core after log met stands =
         let n : ℕ = length lent.events.items in
@@ -228,10 +228,10 @@ module _ {Lock S K L : Type 0} (told : L → Option Log) where
 
   -- ---- a whole call
 
-  module _ {W E A B : Type 0} (seat : W → Seat Lock S L) (old new : W) (lent last : Recorded S K L)
+  module _ {W E A B : Type 0} (seat : W → Seat Lock S L) (old new : W) (new_home : Option ℕ) (lent last : Recorded S K L)
       (ask : Ask) (staged one : Option ℕ) (call : Fate → Core → Gives E B) (is : WorldError → E → Type 0) (holds : Core → A → B → Core → Type 0) (Given : Log → Core → Type 0) (answered : Answered) (result : Result A WorldError)
       (l : IsLent told (seat old) lent)
-      (r : Records ask staged one (base_of (seat old).home (length lent.events.items)) (Answering answered (ActingWith Given one call is holds result)) result lent last) where
+      (r : Records ask staged one (Answering answered (ActingWith Given one call is holds result)) result (seat old).home new_home lent last) where
     Act : Keeping → Keeping → Type 0
     Act = Answering answered (ActingWith Given one call is holds result)
 
@@ -240,35 +240,35 @@ module _ {Lock S K L : Type 0} (told : L → Option Log) where
         → ((fate : Fate) (core : Core) → RanBy ask fate core (call fate core).core)
         → ((mid after : Core) (answer : Result B E) → SaysWith is (holds mid) result answer after → (number : ℕ) → staged ≡ Some number → IsNewNumber mid after number)
         → ((number : ℕ) → one ≡ Some number → WasStagedBy lent.events.items (base_of (seat old).home (length lent.events.items)) number)
-        → GivenBack told (seat old) lent last
+        → GivenBack told (seat old) new_home lent last
     given_back carries sure ran fresh mine = by r
       where
-        by : Unheard result lent last ⊎ Entered ask staged one (base_of (seat old).home (length lent.events.items)) Act lent last → GivenBack told (seat old) lent last
-        by (inl u) = unheard_back told (seat old) lent last l result u
-        by (inr x) = entered_back told (seat old) lent last l ask staged one Act x
+        by : Unheard result (seat old).home new_home lent last ⊎ Entered ask staged one Act (seat old).home new_home lent last → GivenBack told (seat old) new_home lent last
+        by (inl u) = unheard_back told (seat old) new_home lent last l result u
+        by (inr x) = entered_back told (seat old) new_home lent last l ask staged one Act x
             (λ log b core s. (
               let a = x.acts.0 (clocked_at x.clock core) log (clocked lent.world core log x.clock x.clock s x.low refl) (carries.clocked core log x.clock s (sure log b core s)) in
               record { fate = a.fate; after = a.after; ran = ran_by ask call ran a.fate (clocked_at x.clock core) a.answer a.after a.did; goes_on = a.goes_on; fresh = fresh (clocked_at x.clock core) a.after a.answer a.says; stands = a.stands }))
             (answers_tell answered (set_to x.clock lent.world) last.world x.acts.1) mine
 
-    module _ (back : GivenBack told (seat old) lent last) (t : Took (seat old) (seat new) lent last) where
+    module _ (back : GivenBack told (seat old) new_home lent last) (t : Took (seat old) (seat new) new_home lent last) where
       pub answered_of : (IsShort result → IsUnheard answered) → SeatAnswers (seat old) answered (seat new)
       answered_of unheard = by r
         where
-          by : Unheard result lent last ⊎ Entered ask staged one (base_of (seat old).home (length lent.events.items)) Act lent last → SeatAnswers (seat old) answered (seat new)
+          by : Unheard result (seat old).home new_home lent last ⊎ Entered ask staged one Act (seat old).home new_home lent last → SeatAnswers (seat old) answered (seat new)
           by (inl u) = inr (unheard (subst (λ (x : Result A WorldError). IsShort x) (sym u.is) tt))
-          by (inr x) = inl (set_to x.clock lent.world, subst (λ (w : Keeping). IsAnswer answered (set_to x.clock lent.world) w) (world_is (seat old) (seat new) lent last l back t) x.acts.1)
+          by (inr x) = inl (set_to x.clock lent.world, subst (λ (w : Keeping). IsAnswer answered (set_to x.clock lent.world) w) (world_is (seat old) (seat new) new_home lent last l back t) x.acts.1)
 
       -- what is said of any store that tells
       pub told_of : (Says : Result A WorldError → State → State → Type 0) → ((error : AllocError) (s : State) → Says (Err (errors.Memory error)) s s)
           → ((mid new : Keeping) → IsAnswer answered mid new → WhereTold mid.told new.told (Says result)) → WhereTold (seat_told (seat old)) (seat_told (seat new)) (Behind (Says result))
-      told_of Says short says = subst (λ (w : Keeping). WhereTold (seat_told (seat old)) w.told (Behind (Says result))) (world_is (seat old) (seat new) lent last l back t) (by r)
+      told_of Says short says = subst (λ (w : Keeping). WhereTold (seat_told (seat old)) w.told (Behind (Says result))) (world_is (seat old) (seat new) new_home lent last l back t) (by r)
         where
-          by : Unheard result lent last ⊎ Entered ask staged one (base_of (seat old).home (length lent.events.items)) Act lent last → WhereTold (seat_told (seat old)) last.world.told (Behind (Says result))
+          by : Unheard result (seat old).home new_home lent last ⊎ Entered ask staged one Act (seat old).home new_home lent last → WhereTold (seat_told (seat old)) last.world.told (Behind (Says result))
           by (inl u) = subst (λ (w : Keeping). WhereTold (seat_told (seat old)) w.told (Behind (Says result))) (sym u.world)
-              (where_behind (seat_told (seat old)) lent.world.told lent.world.told (Says result) (lent_tells (seat old) (seat new) lent last l back t)
+              (where_behind (seat_told (seat old)) lent.world.told lent.world.told (Says result) (lent_tells (seat old) (seat new) new_home lent last l back t)
               (where_same lent.world.told (Says result) (λ s. subst (λ (x : Result A WorldError). Says x s s) (sym u.is) (short u.error s))))
-          by (inr x) = where_behind (seat_told (seat old)) lent.world.told last.world.told (Says result) (lent_tells (seat old) (seat new) lent last l back t) (says (set_to x.clock lent.world) last.world x.acts.1)
+          by (inr x) = where_behind (seat_told (seat old)) lent.world.told last.world.told (Says result) (lent_tells (seat old) (seat new) new_home lent last l back t) (says (set_to x.clock lent.world) last.world x.acts.1)
 
       -- THE CALL, for its caller's core
       pub does_with : (carries : Carries told (seat old) lent Given) → (wanted : A → B → Core → Type 0) → ((error : AllocError) (core : Core) → core.store_faults ≤ last_count → Short call is error core)
@@ -286,12 +286,12 @@ module _ {Lock S K L : Type 0} (told : L → Option Log) where
           configured : IsConfigured (seat old).config there
           configured = met.goes.keeps.configured (seat old).config s.configured
 
-          by : Unheard result lent last ⊎ Entered ask staged one (base_of (seat old).home (length lent.events.items)) Act lent last
+          by : Unheard result (seat old).home new_home lent last ⊎ Entered ask staged one Act (seat old).home new_home lent last
               → DoesWith (λ w c g. SeatStands told (seat w) c g) Passes (λ w n. SeatOwns (seat w) n) (λ a made b. SeatAdds (seat a) made (seat b)) one ask call is wanted result core log old new
           by (inl u) =
               let within : there.store_faults ≤ last_count = subst (λ (n : ℕ). n ≤ last_count) met.stands.store_faults u.within in
               let q = short u.error there within in
-              let turned = unheard_turned (seat old) (seat new) lent last l back t ask result u core log met in
+              let turned = unheard_turned (seat old) (seat new) new_home lent last l back t ask result u core log met in
               let stays : WorldStands last.world there log = subst (λ (w : Keeping). WorldStands w there log) (sym u.world) met.stands in
               record {
                 mid = there;
@@ -304,7 +304,7 @@ module _ {Lock S K L : Type 0} (told : L → Option Log) where
                   did = q.did;
                   says = subst (λ (x : Result A WorldError). SaysWith is wanted x (Err q.answer) there) (sym u.is) q.says;
                   goes_on = stays_as_is (IsOther one) there;
-                  stands = stands_on (seat old) (seat new) lent last l back t core there log s stays configured;
+                  stands = stands_on (seat old) (seat new) new_home lent last l back t core there log s stays configured;
                 };
                 made = turned.made;
                 own = turned.own;
@@ -313,7 +313,7 @@ module _ {Lock S K L : Type 0} (told : L → Option Log) where
           by (inr x) =
               let mid = clocked_at x.clock there in
               let a = x.acts.0 mid log (clocked lent.world there log x.clock x.clock met.stands x.low refl) (carries.clocked there log x.clock met.stands (carries.onto core log s met given)) in
-              let turned = entered_turned (seat old) (seat new) lent last l back t (IsShort result) ask staged one (base_of (seat old).home (length lent.events.items)) Act x core a.after log met a.stands in
+              let turned = entered_turned (seat old) (seat new) new_home lent last l back t (IsShort result) ask staged one Act x core a.after log met a.stands in
               record {
                 mid = mid;
                 passed = turned.passed;
@@ -325,7 +325,7 @@ module _ {Lock S K L : Type 0} (told : L → Option Log) where
                   did = a.did;
                   says = says_back is (holds mid) wanted result a.answer a.after (λ y b e h. holds_back met x.clock y b a.after e h) a.says;
                   goes_on = a.goes_on;
-                  stands = stands_on (seat old) (seat new) lent last l back t core a.after log s a.stands (a.goes_on.keeps.configured (seat old).config configured);
+                  stands = stands_on (seat old) (seat new) new_home lent last l back t core a.after log s a.stands (a.goes_on.keeps.configured (seat old).config configured);
                 };
                 made = turned.made;
                 own = turned.own;

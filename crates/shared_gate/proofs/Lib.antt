@@ -4,3 +4,6 @@ pub mod Owners
 pub mod Premises
 pub mod Turning
 pub mod Doing
+pub mod Plain
+pub mod Staging
+pub mod Rooms

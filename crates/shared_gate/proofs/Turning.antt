@@ -25,8 +25,8 @@ use Rattle.index_world.specs.declared.world_error.WorldError.{WorldError}
 use Rattle.index_world.specs.declared.world_error.WorldError.TheVariants as errors
 use Rattle.index_world.proofs.Gates.{clocked}
 use Rattle.index_world.proofs.InCore.{goes_both}
-use Rattle.shared_gate.specs.Recording.{AreOwners, Begun, Entered, IsCalled, IsLinked, IsNewNumber, IsStanding, Leads, Led, RanBy, Records, TellsOn, Unheard, WasStagedBy, clocked_at, last_world, set_to, staged_by, uploaded_by}
-use Rattle.shared_gate.specs.Sharing.{AtPlaces, HasCall, IsHome, IsUnheard, Passes, Seat, SeatAdds, SeatAnswers, SeatBegins, SeatOwns, SeatSince, SeatStands, Shows, Step, base_of, home_behind, last_core, seat_told, world_of}
+use Rattle.shared_gate.specs.Recording.{AreOwners, Begun, Entered, IsCalled, IsLinked, IsNewNumber, IsStanding, Leads, Led, RanBy, Records, TellsOn, Unheard, WasStagedBy, clocked_at, last_world, base_of, set_to, staged_by, uploaded_by}
+use Rattle.shared_gate.specs.Sharing.{AtPlaces, HasCall, IsHome, IsUnheard, Passes, Seat, SeatAdds, SeatAnswers, SeatBegins, SeatOwns, SeatSince, SeatStands, Shows, Step, last_core, seat_told, world_of}
 use Rattle.shared_gate.specs.SharedLaws.{clock_goes, front_get, staged_on}
 use Rattle.shared_gate.specs.declared.call.Call.{Call}
 use Rattle.shared_gate.specs.declared.recorded.Event.{Event}
@@ -73,35 +73,26 @@ module _ {Lock S K L : Type 0} (told : L → Option Log) where
   -- ---- the turn ends
 
   -- what the lock asks of the value that it is given back
-  pub record GivenBack (seat : Seat Lock S L) (lent last : Recorded S K L) : Type 0 where
+  pub record GivenBack (seat : Seat Lock S L) (new_home : Option ℕ) (lent last : Recorded S K L) : Type 0 where
     pub standing : IsStanding told last
     pub opened : last.opened.value ≡ seat.opened
     pub source : last.source.value ≡ seat.source
     pub seen : IsPrefix lent.events.items last.events.items
     pub rests : (k : ℕ) (e : Event S) → length lent.events.items ≤ k → slice_get last.events.items k ≡ Some e
         → 0 < times e.base (seat.places ++ run_of (length lent.events.items) (length last.events.items - length lent.events.items))
-    pub home : IsHome (home_behind seat.home (length lent.events.items) (length last.events.items)) (seat.places ++ run_of (length lent.events.items) (length last.events.items - length lent.events.items))
+    pub home : IsHome new_home (seat.places ++ run_of (length lent.events.items) (length last.events.items - length lent.events.items))
+    pub home_stays : (home : ℕ) → seat.home ≡ Some home → new_home ≡ Some home
 
   home_on : (home : Option ℕ) (places more : List ℕ) → IsHome home places → IsHome home (places ++ more)
   home_on None places more h = tt
   home_on (Some home) places more h = in_front home places more h
 
-  -- nothing was recorded
-  no_home : (home : Option ℕ) (n m : ℕ) (places more : List ℕ) → m ≡ n → IsHome home places → IsHome (home_behind home n m) (places ++ more)
-  no_home None n m places more same h = let not : nat_lt n m ≡ false = grind (arith, nat_tests, same) in rw not tt
-  no_home (Some home) n m places more same h = in_front home places more h
-
-  -- one call was recorded
-  a_home : (home : Option ℕ) (n m : ℕ) (places more : List ℕ) → m ≡ n + 1 → 0 < times n (places ++ more) → IsHome home places → IsHome (home_behind home n m) (places ++ more)
-  a_home None n m places more same here h = let less : nat_lt n m ≡ true = grind (arith, nat_tests, same) in rw less here
-  a_home (Some home) n m places more same here h = in_front home places more h
-
   rests_by : (home : Option ℕ) (n : ℕ) (places more : List ℕ) → 0 < times n (places ++ more) → IsHome home places → 0 < times (base_of home n) (places ++ more)
   rests_by None n places more here h = here
   rests_by (Some home) n places more here h = in_front home places more h
 
-  module _ (seat : Seat Lock S L) (lent last : Recorded S K L) (l : IsLent told seat lent) where
-    pub unheard_back : {A : Type 0} (result : Result A WorldError) → Unheard result lent last → GivenBack seat lent last
+  module _ (seat : Seat Lock S L) (new_home : Option ℕ) (lent last : Recorded S K L) (l : IsLent told seat lent) where
+    pub unheard_back : {A : Type 0} (result : Result A WorldError) → Unheard result seat.home new_home lent last → GivenBack seat new_home lent last
     unheard_back result u =
         let long : length last.events.items ≡ length lent.events.items = ap length u.events in
         record {
@@ -114,10 +105,11 @@ module _ {Lock S K L : Type 0} (told : L → Option Log) where
           source = u.source ∙ l.source;
           seen = ([], append-nil lent.events.items ∙ sym u.events);
           rests = λ k e behind there. absurd (let within = slice_get_within last.events.items k e there in omega (arith, within, behind, long));
-          home = no_home seat.home (length lent.events.items) (length last.events.items) seat.places _ long l.home;
+          home = subst (λ (o : Option ℕ). IsHome o (seat.places ++ run_of (length lent.events.items) (length last.events.items - length lent.events.items))) (sym u.home_is) (home_on seat.home seat.places _ l.home);
+          home_stays = λ home is. u.home_is ∙ is;
         }
 
-    module _ (ask : Ask) (staged one : Option ℕ) (Act : Keeping → Keeping → Type 0) (x : Entered ask staged one (base_of seat.home (length lent.events.items)) Act lent last)
+    module _ (ask : Ask) (staged one : Option ℕ) (Act : Keeping → Keeping → Type 0) (x : Entered ask staged one Act seat.home new_home lent last)
         (sure : (log : Log) → SeatBegins told seat log → (core : Core) → WorldStands lent.world core log → Went ask staged one (clocked_at x.clock core) last.world log)
         (tells : TellsOn lent.world last.world)
         (mine : (number : ℕ) → one ≡ Some number → WasStagedBy lent.events.items (base_of seat.home (length lent.events.items)) number) where
@@ -166,7 +158,7 @@ module _ {Lock S K L : Type 0} (told : L → Option Log) where
               subst (λ (b : ℕ). WasStagedBy (lent.events.items ++ x.event ∷ []) b number) base
               (staged_on lent.events.items (lent.events.items ++ x.event ∷ []) (base_of seat.home (length lent.events.items)) number (x.event ∷ [], refl) (mine number is))
 
-      pub entered_back : GivenBack seat lent last
+      pub entered_back : GivenBack seat new_home lent last
       entered_back =
           let n : ℕ = length lent.events.items in
           let long : length last.events.items ≡ n + 1 = ap length x.events ∙ length-append lent.events.items (x.event ∷ []) in
@@ -189,5 +181,7 @@ module _ {Lock S K L : Type 0} (told : L → Option Log) where
               let base : base_of seat.home n ≡ e.base = sym x.base_is ∙ ap (λ (y : Event S). y.base) is in
               subst (λ (b : ℕ). 0 < times b (seat.places ++ run_of n (length last.events.items - n))) base
               (rests_by seat.home n seat.places (run_of n (length last.events.items - n)) new l.home));
-            home = a_home seat.home n (length last.events.items) seat.places (run_of n (length last.events.items - n)) long new l.home;
+            home = subst (λ (o : Option ℕ). IsHome o (seat.places ++ run_of n (length last.events.items - n))) (sym (x.home_is ∙ ap Some x.base_is))
+                (rests_by seat.home n seat.places (run_of n (length last.events.items - n)) new l.home);
+            home_stays = λ home is. x.home_is ∙ ap Some (x.base_is ∙ ap (λ (o : Option ℕ). base_of o n) is);
           }

@@ -1,5 +1,5 @@
 -- What a list of recorded calls says.
-use Rattle.std.specs.Prelude.{◌≡◌, ◌⊎◌, ◌<◌, ◌≤◌, ◌^◌, ℕ, Bool, true, false, List, [], ◌∷◌, ◌++◌, slice_get, Option, Some, None, IsSome, Result, Ok, Err, ⊤}
+use Rattle.std.specs.Prelude.{◌≡◌, ◌⊎◌, ◌<◌, ◌≤◌, ◌^◌, ℕ, Bool, true, false, List, [], ◌∷◌, ◌++◌, length, slice_get, Option, Some, None, IsSome, Result, Ok, Err, ⊤}
 use Rattle.std.specs.declared.alloc.AllocError.{AllocError}
 use Rattle.std.specs.declared.snapshot.Snapshot.{Snapshot}
 use Rattle.object_store.specs.Store.{WhereTold}
@@ -114,6 +114,11 @@ RanBy of_remove fate core after = (remove_call fate core).core ≡ after
 RanBy (of_sweep_list behind) fate core after = (list_call fate core).core ≡ after
 RanBy (of_sweep number) fate core after = (swept_call number fate core).core ≡ after
 
+-- the place on which the next event rests: the first own one
+abbrev pub base_of : Option ℕ → ℕ → ℕ
+base_of None next = next
+base_of (Some home) next = home
+
 abbrev pub clocked_at : ℕ → Core → Core
 clocked_at clock core = record core { clock = clock }
 
@@ -185,11 +190,12 @@ module _ {S K L : Type 0} where
 
   -- ---- what a call recorded
 
-  -- one event more, and nothing else
-  pub record IsNoted (call : Call) (base : ℕ) (old new : Recorded S K L) : Type 0 where
+  -- one event more, and nothing else: it rests on the home, which is its own place where there was none
+  pub record IsNoted (call : Call) (home new_home : Option ℕ) (old new : Recorded S K L) : Type 0 where
     pub event : Event S
     pub call_is : event.call ≡ call
-    pub base_is : event.base ≡ base
+    pub base_is : event.base ≡ base_of home (length old.events.items)
+    pub home_is : new_home ≡ Some event.base
     pub left_is : event.left.value ≡ old.world
     pub world : new.world ≡ old.world
     pub events : new.events.items ≡ old.events.items ++ event ∷ []
@@ -197,7 +203,7 @@ module _ {S K L : Type 0} where
     pub source : new.source.value ≡ old.source.value
 
   -- there was no memory for its event, and it did nothing
-  pub record Unheard {A : Type 0} (result : Result A WorldError) (old new : Recorded S K L) : Type 0 where
+  pub record Unheard {A : Type 0} (result : Result A WorldError) (home new_home : Option ℕ) (old new : Recorded S K L) : Type 0 where
     pub error : AllocError
     pub is : result ≡ Err (errors.Memory error)
     pub within : old.world.store_faults ≤ last_count
@@ -205,23 +211,25 @@ module _ {S K L : Type 0} where
     pub events : new.events.items ≡ old.events.items
     pub opened : new.opened.value ≡ old.opened.value
     pub source : new.source.value ≡ old.source.value
+    pub home_is : new_home ≡ home
 
   -- the clock was asked, then the call acted on the world, and it is the last event
-  pub record Entered (ask : Ask) (staged uploaded : Option ℕ) (base : ℕ) (Act : Keeping → Keeping → Type 0) (old new : Recorded S K L) : Type 0 where
+  pub record Entered (ask : Ask) (staged uploaded : Option ℕ) (Act : Keeping → Keeping → Type 0) (home new_home : Option ℕ) (old new : Recorded S K L) : Type 0 where
     pub clock : ℕ
     pub low : clock < 2 ^ 62
     pub acts : Act (set_to clock old.world) new.world
     pub event : Event S
     pub called : IsCalled ask staged uploaded event.call
-    pub base_is : event.base ≡ base
+    pub base_is : event.base ≡ base_of home (length old.events.items)
+    pub home_is : new_home ≡ Some event.base
     pub left_is : event.left.value ≡ new.world
     pub events : new.events.items ≡ old.events.items ++ event ∷ []
     pub opened : new.opened.value ≡ old.opened.value
     pub source : new.source.value ≡ old.source.value
 
   -- A CALL IS RECORDED ONCE, as what it left, or it does nothing.
-  abbrev pub Records : {A : Type 0} → Ask → (staged uploaded : Option ℕ) → ℕ → (Keeping → Keeping → Type 0) → Result A WorldError → Recorded S K L → Recorded S K L → Type 0
-  Records ask staged uploaded base Act result old new = Unheard result old new ⊎ Entered ask staged uploaded base Act old new
+  abbrev pub Records : {A : Type 0} → Ask → (staged uploaded : Option ℕ) → (Keeping → Keeping → Type 0) → Result A WorldError → (home new_home : Option ℕ) → Recorded S K L → Recorded S K L → Type 0
+  Records ask staged uploaded Act result home new_home old new = Unheard result home new_home old new ⊎ Entered ask staged uploaded Act home new_home old new
 
 -- ---- what a world's own call says, of whatever core
 

@@ -1,5 +1,5 @@
 -- What one of many that share a world knows of it.
-use Rattle.std.specs.Prelude.{◌≡◌, ◌⊎◌, ◌<◌, ◌^◌, ℕ, List, [], ◌∷◌, ◌++◌, slice_get, nat_lt, if◌then◌else◌, Option, Some, None, Result, ⊤}
+use Rattle.std.specs.Prelude.{◌≡◌, ◌⊎◌, ◌<◌, ◌^◌, ℕ, List, [], ◌∷◌, ◌++◌, slice_get, Option, Some, None, Result, ⊤}
 use mathlib.Core.List.{IsPrefix}
 use Rattle.index_config.specs.declared.config.IndexConfig.{IndexConfig}
 use Rattle.source_log.specs.Log.{Log}
@@ -167,13 +167,3 @@ module _ {Lock S L : Type 0} where
 abbrev pub IsHome : Option ℕ → List ℕ → Type 0
 IsHome None places = ⊤
 IsHome (Some home) places = 0 < times home places
-
--- the place on which the next event rests
-abbrev pub base_of : Option ℕ → ℕ → ℕ
-base_of None next = next
-base_of (Some home) next = home
-
--- a home once an event was recorded
-abbrev pub home_behind : Option ℕ → (before after : ℕ) → Option ℕ
-home_behind None before after = if nat_lt before after then Some before else None
-home_behind (Some home) before after = Some home

@@ -2,9 +2,11 @@
 #![tactic(auto)]
 
 mod call;
+mod gate;
 mod recorded;
 mod shared;
 
 pub use call::Call;
+pub use gate::Gate;
 pub use recorded::{Event, Opening, Recorded};
 pub use shared::Shared;

@@ -111,10 +111,15 @@ impl<S: ObjectStore, K: Clock, L: SourceLog> Recorded<S, K, L> {
     }
 
     // Records a call, for which there is room.
-    fn note(&mut self, call: Call, base: u64)
+    fn note(&mut self, call: Call, home: &mut Option<u64>)
         requires { vec_len self.old.events < vec_capacity self.old.events }
-        ensures noted { IsNoted call base self.old self.new }
+        ensures { IsNoted call home.old home.new self.old self.new }
     {
+        let base = match *home {
+            Some(place) => place,
+            None => self.events.len() as u64,
+        };
+        *home = Some(base);
         let left = Snapshot::of(&self.world);
         let _ = self.events.push(Event { call, base, left });
     }
