@@ -129,6 +129,12 @@ pub ran_by : {E B : Type 0} (ask : Ask) (call : Fate → Core → Gives E B) →
     → (fate : Fate) (core : Core) (answer : Result B E) (after : Core) → call fate core ≡ gives answer after → RanBy ask fate core after
 ran_by ask call ran fate core answer after did = subst (λ (c : Core). RanBy ask fate core c) (ap (λ (g : Gives _ _). g.core) did) (ran fate core)
 
+-- which errors there are
+pub kinds_by : {S K L A : Type 0} (ask : Ask) (staged one : Option ℕ) (Act : Keeping → Keeping → Type 0) (answered : Answered) (result : Result A WorldError) (home new_home : Option ℕ) (old new : Recorded S K L)
+    → Records ask staged one (Answering answered Act) result home new_home old new → (Kinds : Result A WorldError → Type 0) → ((error : AllocError) → Kinds (Err (errors.Memory error))) → ((mid last : Keeping) → IsAnswer answered mid last → Kinds result) → Kinds result
+kinds_by ask staged one Act answered result home new_home old new (inl u) Kinds short kinds = subst Kinds (sym u.is) (short u.error)
+kinds_by ask staged one Act answered result home new_home old new (inr x) Kinds short kinds = kinds (set_to x.clock old.world) new.world x.acts.1
+
 module _ {Lock S K L : Type 0} (told : L → Option Log) where
   -- what the end of a turn made of a seat
   pub record Took (old new : Seat Lock S L) (new_home : Option ℕ) (lent last : Recorded S K L) : Type 0 where
@@ -226,6 +232,23 @@ module _ {Lock S K L : Type 0} (told : L → Option Log) where
     lent_tells : TellsOn (world_of old) lent.world
     lent_tells some = subst (λ (w : Keeping). IsSome w.told) (sym (lent_is told old lent l)) (tells_on (SeatBegins told old) (world_of old) l.seen.0 (unseen told old lent l) some)
 
+    -- what it answered over any store that tells
+    pub answered_by : {A : Type 0} (ask : Ask) (staged one : Option ℕ) (Act : Keeping → Keeping → Type 0) (answered : Answered) (result : Result A WorldError)
+        → Records ask staged one (Answering answered Act) result old.home new_home lent last → (IsShort result → IsUnheard answered) → SeatAnswers old answered new
+    answered_by ask staged one Act answered result (inl u) unheard = inr (unheard (subst (λ (x : Result _ WorldError). IsShort x) (sym u.is) tt))
+    answered_by ask staged one Act answered result (inr x) unheard = inl (set_to x.clock lent.world, subst (λ (w : Keeping). IsAnswer answered (set_to x.clock lent.world) w) world_is x.acts.1)
+
+    pub told_by : {A : Type 0} (ask : Ask) (staged one : Option ℕ) (Act : Keeping → Keeping → Type 0) (answered : Answered) (result : Result A WorldError)
+        → Records ask staged one (Answering answered Act) result old.home new_home lent last → (Says : Result A WorldError → State → State → Type 0) → ((error : AllocError) (s : State) → Says (Err (errors.Memory error)) s s)
+        → ((mid last : Keeping) → IsAnswer answered mid last → WhereTold mid.told last.told (Says result)) → WhereTold (seat_told old) (seat_told new) (Behind (Says result))
+    told_by ask staged one Act answered result r Says short says = subst (λ (w : Keeping). WhereTold (seat_told old) w.told (Behind (Says result))) world_is (by r)
+      where
+        by : Unheard result old.home new_home lent last ⊎ Entered ask staged one (Answering answered Act) old.home new_home lent last → WhereTold (seat_told old) last.world.told (Behind (Says result))
+        by (inl u) = subst (λ (w : Keeping). WhereTold (seat_told old) w.told (Behind (Says result))) (sym u.world)
+            (where_behind (seat_told old) lent.world.told lent.world.told (Says result) lent_tells
+            (where_same lent.world.told (Says result) (λ s. subst (λ (x : Result _ WorldError). Says x s s) (sym u.is) (short u.error s))))
+        by (inr x) = where_behind (seat_told old) lent.world.told last.world.told (Says result) lent_tells (says (set_to x.clock lent.world) last.world x.acts.1)
+
   -- ---- a whole call
 
   module _ {W E A B : Type 0} (seat : W → Seat Lock S L) (old new : W) (new_home : Option ℕ) (lent last : Recorded S K L)
@@ -252,24 +275,6 @@ module _ {Lock S K L : Type 0} (told : L → Option Log) where
             (answers_tell answered (set_to x.clock lent.world) last.world x.acts.1) mine
 
     module _ (back : GivenBack told (seat old) new_home lent last) (t : Took (seat old) (seat new) new_home lent last) where
-      pub answered_of : (IsShort result → IsUnheard answered) → SeatAnswers (seat old) answered (seat new)
-      answered_of unheard = by r
-        where
-          by : Unheard result (seat old).home new_home lent last ⊎ Entered ask staged one Act (seat old).home new_home lent last → SeatAnswers (seat old) answered (seat new)
-          by (inl u) = inr (unheard (subst (λ (x : Result A WorldError). IsShort x) (sym u.is) tt))
-          by (inr x) = inl (set_to x.clock lent.world, subst (λ (w : Keeping). IsAnswer answered (set_to x.clock lent.world) w) (world_is (seat old) (seat new) new_home lent last l back t) x.acts.1)
-
-      -- what is said of any store that tells
-      pub told_of : (Says : Result A WorldError → State → State → Type 0) → ((error : AllocError) (s : State) → Says (Err (errors.Memory error)) s s)
-          → ((mid new : Keeping) → IsAnswer answered mid new → WhereTold mid.told new.told (Says result)) → WhereTold (seat_told (seat old)) (seat_told (seat new)) (Behind (Says result))
-      told_of Says short says = subst (λ (w : Keeping). WhereTold (seat_told (seat old)) w.told (Behind (Says result))) (world_is (seat old) (seat new) new_home lent last l back t) (by r)
-        where
-          by : Unheard result (seat old).home new_home lent last ⊎ Entered ask staged one Act (seat old).home new_home lent last → WhereTold (seat_told (seat old)) last.world.told (Behind (Says result))
-          by (inl u) = subst (λ (w : Keeping). WhereTold (seat_told (seat old)) w.told (Behind (Says result))) (sym u.world)
-              (where_behind (seat_told (seat old)) lent.world.told lent.world.told (Says result) (lent_tells (seat old) (seat new) new_home lent last l back t)
-              (where_same lent.world.told (Says result) (λ s. subst (λ (x : Result A WorldError). Says x s s) (sym u.is) (short u.error s))))
-          by (inr x) = where_behind (seat_told (seat old)) lent.world.told last.world.told (Says result) (lent_tells (seat old) (seat new) new_home lent last l back t) (says (set_to x.clock lent.world) last.world x.acts.1)
-
       -- THE CALL, for its caller's core
       pub does_with : (carries : Carries told (seat old) lent Given) → (wanted : A → B → Core → Type 0) → ((error : AllocError) (core : Core) → core.store_faults ≤ last_count → Short call is error core)
           → (core : Core) (log : Log) → SeatStands told (seat old) core log → Given log core

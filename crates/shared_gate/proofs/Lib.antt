@@ -7,3 +7,4 @@ pub mod Doing
 pub mod Plain
 pub mod Staging
 pub mod Rooms
+pub mod Fetching

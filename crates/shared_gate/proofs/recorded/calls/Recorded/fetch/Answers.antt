@@ -1,13 +1,9 @@
-use Rattle.std.proofs.Common.{◌≡◌, refl, sym, ap, ◌∙◌, inl, inr, ℕ, List}
-use Rattle.std.specs.Prelude.{Option, Some, None}
-use Rattle.std.specs.Option.{option_copied}
+use Rattle.std.proofs.Common.{◌≡◌, refl, sym, ap, ◌∙◌, inl, inr}
+use Rattle.std.specs.Prelude.{Some, None}
 use Rattle.meta_store.specs.declared.planning.PlanRow.{PlanRow}
-use Rattle.index_world.specs.CallsMade.{of_checkpoints, of_moment, of_stage, of_upload, of_publish, of_replace, of_raise, of_task, of_plan, of_fetch, of_mark_stale, of_doom, of_remove, of_sweep_list, of_sweep}
-use Rattle.index_world.specs.Replacing.{numbers_of}
-use Rattle.index_world.specs.World.{Keeping}
-use Rattle.index_world.specs.declared.tokens.Plan.{Plan as Planned}
-use Rattle.shared_gate.specs.Acts.{marks_act, moment_act, stage_act, number_given, upload_act, publish_act, replace_act, raise_act, task_act, plan_act, mark_stale_act, doom_act, remove_act, list_act, sweep_act, fetch_act}
-use Rattle.shared_gate.proofs.Recording.{entered, swept, unheard}
+use Rattle.index_world.specs.CallsMade.{of_fetch}
+use Rattle.shared_gate.specs.Acts.{fetch_act}
+use Rattle.shared_gate.proofs.Recording.{entered, unheard}
 use Rattle.shared_gate.proofs.recorded.calls.Recorded.fetch.Goals as goal
 
 pub returns-in-Err : goal.returns-in-Err
