@@ -6,12 +6,12 @@ use mathlib.Core.List.{IsPrefix}
 use Rattle.source_log.specs.Log.{Log}
 use Rattle.turn_lock.proofs.Beginnings.{prefix_self, prefix_trans}
 use Rattle.index_world.specs.CallsMade.{CallMade}
-use Rattle.index_world.specs.Core.{Core, Nobody}
+use Rattle.index_world.specs.Core.{Core, IsConfigured, Nobody}
 use Rattle.index_world.specs.Gate.{IsSoundCore}
 use Rattle.index_world.specs.DirectLaws.{stays_as_is}
 use Rattle.index_world.specs.World.{GoesFor, Keeping, WorldStands}
 use Rattle.index_world.proofs.InCore.{goes_both, moment_goes}
-use Rattle.shared_gate.specs.Recording.{Begun, WasStagedBy, clocked_at}
+use Rattle.shared_gate.specs.Recording.{WasStagedBy, clocked_at, last_world}
 use Rattle.shared_gate.specs.Sharing.{AtPlaces, HasCall, IsLife, Passes, Seat, SeatAdds, SeatBegins, SeatOwns, SeatSince, SeatStands, Step, last_core}
 use Rattle.shared_gate.specs.declared.recorded.Event.{Event}
 
@@ -70,6 +70,14 @@ module _ {S : Type 0} where
 module _ {Lock S L : Type 0} where
   pub is_sound : (told : L → Option Log) (seat : Seat Lock S L) (core : Core) (log : Log) → SeatStands told seat core log → IsSoundCore core log
   is_sound told seat core log s = record { kept = s.stands.kept; world = s.stands.world; timely = s.stands.timely; opened = s.stands.opened }
+
+  -- one that has seen no call yet stands for each core of the world that the life began with
+  pub fresh_stands : (told : L → Option Log) (seat : Seat Lock S L) (core : Core) (log : Log) → seat.seen ≡ [] → SeatBegins told seat log → WorldStands seat.opened core log → IsConfigured seat.config core → SeatStands told seat core log
+  fresh_stands told seat core log none begins stands configured = record {
+    begins = begins;
+    stands = subst (λ (es : List (Event S)). WorldStands (last_world seat.opened es) core log) (sym none) stands;
+    configured = configured;
+  }
 
   pub since_same : (seat : Seat Lock S L) → SeatSince seat seat
   since_same seat = record { lock = refl; opened = refl; source = refl; config = refl; seen = prefix_self seat.seen; parts = refl; left = refl; home = λ home is. is; rises = λ r. r }
