@@ -255,7 +255,7 @@ module _ {Lock S K L : Type 0} (told : L → Option Log) where
       (ask : Ask) (staged one : Option ℕ) (call : Fate → Core → Gives E B) (is : WorldError → E → Type 0) (holds : Core → A → B → Core → Type 0) (Given : Log → Core → Type 0) (answered : Answered) (result : Result A WorldError)
       (l : IsLent told (seat old) lent)
       (r : Records ask staged one (Answering answered (ActingWith Given one call is holds result)) result (seat old).home new_home lent last) where
-    Act : Keeping → Keeping → Type 0
+    abbrev Act : Keeping → Keeping → Type 0
     Act = Answering answered (ActingWith Given one call is holds result)
 
     -- THE VALUE MAY BE GIVEN BACK, where what the call needs is known.
@@ -280,20 +280,14 @@ module _ {Lock S K L : Type 0} (told : L → Option Log) where
           → (core : Core) (log : Log) → SeatStands told (seat old) core log → Given log core
           → ((met : Met told (seat old) lent core log) (clock : ℕ) (a : A) (b : B) (after : Core) → result ≡ Ok a → holds (clocked_at clock (last_core core met.steps)) a b after → wanted a b after)
           → DoesWith (λ w c g. SeatStands told (seat w) c g) Passes (λ w n. SeatOwns (seat w) n) (λ a made b. SeatAdds (seat a) made (seat b)) one ask call is wanted result core log old new
-      does_with carries wanted short core log s given holds_back = by r
+      does_with carries wanted short core log s given holds_back = by (meets told (seat old) lent l core log s) (holds_back (meets told (seat old) lent l core log s)) r
         where
-          met : Met told (seat old) lent core log
-          met = meets told (seat old) lent l core log s
-
-          there : Core
-          there = last_core core met.steps
-
-          configured : IsConfigured (seat old).config there
-          configured = met.goes.keeps.configured (seat old).config s.configured
-
-          by : Unheard result (seat old).home new_home lent last ⊎ Entered ask staged one Act (seat old).home new_home lent last
+          by : (met : Met told (seat old) lent core log) → ((clock : ℕ) (a : A) (b : B) (after : Core) → result ≡ Ok a → holds (clocked_at clock (last_core core met.steps)) a b after → wanted a b after)
+              → Unheard result (seat old).home new_home lent last ⊎ Entered ask staged one Act (seat old).home new_home lent last
               → DoesWith (λ w c g. SeatStands told (seat w) c g) Passes (λ w n. SeatOwns (seat w) n) (λ a made b. SeatAdds (seat a) made (seat b)) one ask call is wanted result core log old new
-          by (inl u) =
+          by met back_of (inl u) =
+              let there : Core = last_core core met.steps in
+              let configured : IsConfigured (seat old).config there = met.goes.keeps.configured (seat old).config s.configured in
               let within : there.store_faults ≤ last_count = subst (λ (n : ℕ). n ≤ last_count) met.stands.store_faults u.within in
               let q = short u.error there within in
               let turned = unheard_turned (seat old) (seat new) new_home lent last l back t ask result u core log met in
@@ -315,8 +309,10 @@ module _ {Lock S K L : Type 0} (told : L → Option Log) where
                 own = turned.own;
                 once = turned.once;
               }
-          by (inr x) =
-              let mid = clocked_at x.clock there in
+          by met back_of (inr x) =
+              let there : Core = last_core core met.steps in
+              let configured : IsConfigured (seat old).config there = met.goes.keeps.configured (seat old).config s.configured in
+              let mid : Core = clocked_at x.clock there in
               let a = x.acts.0 mid log (clocked lent.world there log x.clock x.clock met.stands x.low refl) (carries.clocked there log x.clock met.stands (carries.onto core log s met given)) in
               let turned = entered_turned (seat old) (seat new) new_home lent last l back t (IsShort result) ask staged one Act x core a.after log met a.stands in
               record {
@@ -328,7 +324,7 @@ module _ {Lock S K L : Type 0} (told : L → Option Log) where
                   answer = a.answer;
                   after = a.after;
                   did = a.did;
-                  says = says_back is (holds mid) wanted result a.answer a.after (λ y b e h. holds_back met x.clock y b a.after e h) a.says;
+                  says = says_back is (holds mid) wanted result a.answer a.after (λ y b e h. back_of x.clock y b a.after e h) a.says;
                   goes_on = a.goes_on;
                   stands = stands_on (seat old) (seat new) new_home lent last l back t core a.after log s a.stands (a.goes_on.keeps.configured (seat old).config configured);
                 };

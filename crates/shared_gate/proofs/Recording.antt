@@ -44,7 +44,7 @@ module _ {S K L : Type 0} where
       }
 
 -- a sweep that asked for no memory
-asks_memory : Fate → Fate
+abbrev asks_memory : Fate → Fate
 asks_memory fate = record fate { unasked = false }
 
 pub swept : (number : ℕ) (result : Result Bool WorldError) (old new : Keeping)

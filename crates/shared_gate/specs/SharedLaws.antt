@@ -68,8 +68,8 @@ module _ {S : Type 0} where
 -- ---- one gate
 
 module _ {Lock S L : Type 0} where
-  pub is_sound : (told : L → Option Log) (seat : Seat Lock S L) (core : Core) (log : Log) → SeatStands told seat core log → IsSoundCore core log
-  is_sound told seat core log s = record { kept = s.stands.kept; world = s.stands.world; timely = s.stands.timely; opened = s.stands.opened }
+  pub seat_is_sound : (told : L → Option Log) (seat : Seat Lock S L) (core : Core) (log : Log) → SeatStands told seat core log → IsSoundCore core log
+  seat_is_sound told seat core log s = record { kept = s.stands.kept; world = s.stands.world; timely = s.stands.timely; opened = s.stands.opened }
 
   -- one that has seen no call yet stands for each core of the world that the life began with
   pub fresh_stands : (told : L → Option Log) (seat : Seat Lock S L) (core : Core) (log : Log) → seat.seen ≡ [] → SeatBegins told seat log → WorldStands seat.opened core log → IsConfigured seat.config core → SeatStands told seat core log
@@ -79,11 +79,11 @@ module _ {Lock S L : Type 0} where
     configured = configured;
   }
 
-  pub since_same : (seat : Seat Lock S L) → SeatSince seat seat
-  since_same seat = record { lock = refl; opened = refl; source = refl; config = refl; seen = prefix_self seat.seen; parts = refl; left = refl; home = λ home is. is; rises = λ r. r }
+  pub seat_since_same : (seat : Seat Lock S L) → SeatSince seat seat
+  seat_since_same seat = record { lock = refl; opened = refl; source = refl; config = refl; seen = prefix_self seat.seen; parts = refl; left = refl; home = λ home is. is; rises = λ r. r }
 
-  pub since_more : (first mid last : Seat Lock S L) → SeatSince first mid → SeatSince mid last → SeatSince first last
-  since_more first mid last a b = record {
+  pub seat_since_more : (first mid last : Seat Lock S L) → SeatSince first mid → SeatSince mid last → SeatSince first last
+  seat_since_more first mid last a b = record {
     lock = b.lock ∙ a.lock;
     opened = b.opened ∙ a.opened;
     source = b.source ∙ a.source;
@@ -95,18 +95,18 @@ module _ {Lock S L : Type 0} where
     rises = λ r. b.rises (a.rises r);
   }
 
-  pub since_owns : (first last : Seat Lock S L) (number : ℕ) → SeatSince first last → SeatOwns first number → SeatOwns last number
-  since_owns first last number s o = record { home = o.home; is = s.home o.home o.is; staged = staged_on first.seen last.seen o.home number s.seen o.staged }
+  pub seat_since_owns : (first last : Seat Lock S L) (number : ℕ) → SeatSince first last → SeatOwns first number → SeatOwns last number
+  seat_since_owns first last number s o = record { home = o.home; is = s.home o.home o.is; staged = staged_on first.seen last.seen o.home number s.seen o.staged }
 
-  pub since_begins : (told : L → Option Log) (first last : Seat Lock S L) (log : Log) → SeatSince first last → SeatBegins told last log → SeatBegins told first log
-  since_begins told first last log s b = (subst (λ (w : Keeping). (core : Core) × WorldStands w core log) s.opened b.0, ap told (sym s.source) ∙ b.1)
+  pub seat_since_begins : (told : L → Option Log) (first last : Seat Lock S L) (log : Log) → SeatSince first last → SeatBegins told last log → SeatBegins told first log
+  seat_since_begins told first last log s b = (subst (λ (w : Keeping). (core : Core) × WorldStands w core log) s.opened b.0, ap told (sym s.source) ∙ b.1)
 
-  pub adds_none : (seat : Seat Lock S L) → SeatAdds seat [] seat
-  adds_none seat = record { since = since_same seat; more = []; places = sym (append-nil seat.places); calls = tt }
+  pub seat_adds_none : (seat : Seat Lock S L) → SeatAdds seat [] seat
+  seat_adds_none seat = record { since = seat_since_same seat; more = []; places = sym (append-nil seat.places); calls = tt }
 
-  pub adds_more : (first mid last : Seat Lock S L) (made more : List CallMade) → SeatAdds first made mid → SeatAdds mid more last → SeatAdds first (made ++ more) last
-  adds_more first mid last made more a b = record {
-    since = since_more first mid last a.since b.since;
+  pub seat_adds_more : (first mid last : Seat Lock S L) (made more : List CallMade) → SeatAdds first made mid → SeatAdds mid more last → SeatAdds first (made ++ more) last
+  seat_adds_more first mid last made more a b = record {
+    since = seat_since_more first mid last a.since b.since;
     more = a.more ++ b.more;
     places = b.places ∙ ap (λ (l : List ℕ). l ++ b.more) a.places ∙ append_assoc first.places a.more b.more;
     calls = at_both last.seen a.more b.more made more (at_longer mid.seen last.seen a.more made b.since.seen a.calls) b.calls;

@@ -29,7 +29,7 @@ fn fetched_behind(count: u128, piece: &Result<Piece, WorldError>) -> u128
 
 impl<'a, R: Wait, S: ObjectStore, K: Clock, L: SourceLog> Gate for Shared<'a, R, Recorded<S, K, L>> {
     ghost use Rattle.shared_gate.specs.Sharing.{Passes, SeatAdds, SeatAnswers, SeatBegins, SeatOwns, SeatSince, SeatStands, seat_of, seat_told};
-    ghost use Rattle.shared_gate.specs.SharedLaws.{adds_more, adds_none, is_sound, none_passes, passes_go, since_begins, since_more, since_owns, since_same};
+    ghost use Rattle.shared_gate.specs.SharedLaws.{none_passes, passes_go, seat_adds_more, seat_adds_none, seat_is_sound, seat_since_begins, seat_since_more, seat_since_owns, seat_since_same};
 
     ghost Stands = { λ gate core log. SeatStands L.told (seat_of gate.lock.now gate.pass gate.config.now gate.home) core log };
 
@@ -51,23 +51,23 @@ impl<'a, R: Wait, S: ObjectStore, K: Clock, L: SourceLog> Gate for Shared<'a, R,
 
     ghost Answers = { λ old answered new. SeatAnswers (seat_of old.lock.now old.pass old.config.now old.home) answered (seat_of new.lock.now new.pass new.config.now new.home) };
 
-    ghost is_sound = { λ gate core log s. is_sound L.told (seat_of gate.lock.now gate.pass gate.config.now gate.home) core log s };
+    ghost is_sound = { λ gate core log s. seat_is_sound L.told (seat_of gate.lock.now gate.pass gate.config.now gate.home) core log s };
 
     ghost none_between = { none_passes };
 
     ghost between_goes = { passes_go };
 
-    ghost adds_none = { λ gate. adds_none (seat_of gate.lock.now gate.pass gate.config.now gate.home) };
+    ghost adds_none = { λ gate. seat_adds_none (seat_of gate.lock.now gate.pass gate.config.now gate.home) };
 
-    ghost adds_more = { λ first mid last made more a b. adds_more (seat_of first.lock.now first.pass first.config.now first.home) (seat_of mid.lock.now mid.pass mid.config.now mid.home) (seat_of last.lock.now last.pass last.config.now last.home) made more a b };
+    ghost adds_more = { λ first mid last made more a b. seat_adds_more (seat_of first.lock.now first.pass first.config.now first.home) (seat_of mid.lock.now mid.pass mid.config.now mid.home) (seat_of last.lock.now last.pass last.config.now last.home) made more a b };
 
-    ghost since_same = { λ gate. since_same (seat_of gate.lock.now gate.pass gate.config.now gate.home) };
+    ghost since_same = { λ gate. seat_since_same (seat_of gate.lock.now gate.pass gate.config.now gate.home) };
 
-    ghost since_more = { λ first mid last a b. since_more (seat_of first.lock.now first.pass first.config.now first.home) (seat_of mid.lock.now mid.pass mid.config.now mid.home) (seat_of last.lock.now last.pass last.config.now last.home) a b };
+    ghost since_more = { λ first mid last a b. seat_since_more (seat_of first.lock.now first.pass first.config.now first.home) (seat_of mid.lock.now mid.pass mid.config.now mid.home) (seat_of last.lock.now last.pass last.config.now last.home) a b };
 
-    ghost since_owns = { λ first last number s o. since_owns (seat_of first.lock.now first.pass first.config.now first.home) (seat_of last.lock.now last.pass last.config.now last.home) number s o };
+    ghost since_owns = { λ first last number s o. seat_since_owns (seat_of first.lock.now first.pass first.config.now first.home) (seat_of last.lock.now last.pass last.config.now last.home) number s o };
 
-    ghost since_begins = { λ first last log s b. since_begins L.told (seat_of first.lock.now first.pass first.config.now first.home) (seat_of last.lock.now last.pass last.config.now last.home) log s b };
+    ghost since_begins = { λ first last log s b. seat_since_begins L.told (seat_of first.lock.now first.pass first.config.now first.home) (seat_of last.lock.now last.pass last.config.now last.home) log s b };
 
     fn config(&self) -> &IndexConfig {
         self.config
