@@ -218,12 +218,15 @@ module _ {Lock S K L : Type 0} (told : L → Option Log) where
             since = since_of;
             more = n ∷ [];
             places = t.places ∙ (λ i. old.places ++ run_of n (more i));
-            calls = (record {
-              event = x.event;
-              there = there;
-              is = x.called.is;
-              shows = record { core = after; log = log; stands = subst (λ (w : Keeping). WorldStands w after log) (sym x.left_is) stands; is = refl };
-            }, tt);
+            calls = (
+              record {
+                event = x.event;
+                there = there;
+                is = x.called.is;
+                shows = record { core = after; log = log; stands = subst (λ (w : Keeping). WorldStands w after log) (sym x.left_is) stands; is = refl };
+              },
+              tt,
+            );
           };
           once = inl refl;
         }
@@ -270,8 +273,8 @@ module _ {Lock S K L : Type 0} (told : L → Option Log) where
         by (inl u) = unheard_back told (seat old) new_home lent last l result u
         by (inr x) = entered_back told (seat old) new_home lent last l ask staged one Act x
             (λ log b core s. (
-              let a = x.acts.0 (clocked_at x.clock core) log (clocked lent.world core log x.clock x.clock s x.low refl) (carries.clocked core log x.clock s (sure log b core s)) in
-              record { fate = a.fate; after = a.after; ran = ran_by ask call ran a.fate (clocked_at x.clock core) a.answer a.after a.did; goes_on = a.goes_on; fresh = fresh (clocked_at x.clock core) a.after a.answer a.says; stands = a.stands }))
+            let a = x.acts.0 (clocked_at x.clock core) log (clocked lent.world core log x.clock x.clock s x.low refl) (carries.clocked core log x.clock s (sure log b core s)) in
+            record { fate = a.fate; after = a.after; ran = ran_by ask call ran a.fate (clocked_at x.clock core) a.answer a.after a.did; goes_on = a.goes_on; fresh = fresh (clocked_at x.clock core) a.after a.answer a.says; stands = a.stands }))
             (answers_tell answered (set_to x.clock lent.world) last.world x.acts.1) mine
 
     module _ (back : GivenBack told (seat old) new_home lent last) (t : Took (seat old) (seat new) new_home lent last) where

@@ -18,6 +18,7 @@ use Rattle.index_world.specs.Gate.{Does, IsUnmade, SaysWith, WasStaged, stage_ca
 use Rattle.index_world.specs.Index.{has_staged, HasStaged}
 use Rattle.index_world.specs.declared.tokens.Staged.{Staged}
 use Rattle.index_world.specs.declared.world_error.WorldError.{WorldError}
+use Rattle.index_world.specs.declared.world_error.WorldError.TheVariants as errors
 use Rattle.shared_gate.specs.Acts.{number_given, stage_act}
 use Rattle.shared_gate.specs.Recording.{Acting, Always, Answering, Entered, IsNewNumber, Records, Unheard, WasStagedBy, base_of, clocked_at, staged_by}
 use Rattle.shared_gate.specs.Sharing.{Passes, Seat, SeatAdds, SeatOwns, SeatStands, last_core}
@@ -70,7 +71,7 @@ module _ {Lock S K L : Type 0} (told : L → Option Log) where
         by : (x : Result Staged WorldError) → result ≡ x → Unheard result (seat old).home new_home lent last ⊎ Entered (of_stage delta facts) (number_given result) None (Answering answered (Acting Always None (stage_call delta facts) IsUnmade (λ core. WasStaged core delta facts) result)) (seat old).home new_home lent last
             → IfOk x (λ staged. SeatOwns (seat new) staged.number)
         by (Err error) e y = tt
-        by (Ok staged) e (inl u) = absurd (let bad : Ok staged ≡ Err _ = sym e ∙ u.is in cc bad)
+        by (Ok staged) e (inl u) = absurd (let bad : ◌≡◌ {A = Result Staged WorldError} (Ok staged) (Err (errors.Memory u.error)) = sym e ∙ u.is in cc bad)
         by (Ok staged) e (inr x) =
             let n : ℕ = length lent.events.items in
             let grew : (seat new).seen ≡ lent.events.items ++ x.event ∷ [] = t.seen ∙ x.events in

@@ -171,13 +171,13 @@ module _ {Lock S K L : Type 0} (told : L → Option Log) where
             source = source_is;
             seen = (x.event ∷ [], sym x.events);
             rests = λ k e behind there. (
-              let within = slice_get_within last.events.items k e there in
-              let at : k ≡ n = omega (arith, within, behind, long) in
-              let found : Some x.event ≡ Some e = sym here ∙ ap (slice_get last.events.items) (sym at) ∙ there in
-              let is : x.event ≡ e = cc found in
-              let base : base_of seat.home n ≡ e.base = sym x.base_is ∙ ap (λ (y : Event S). y.base) is in
-              subst (λ (b : ℕ). 0 < times b (seat.places ++ run_of n (length last.events.items - n))) base
-              (rests_by seat.home n seat.places (run_of n (length last.events.items - n)) new l.home));
+                let within = slice_get_within last.events.items k e there in
+                let at : k ≡ n = omega (arith, within, behind, long) in
+                let found : Some x.event ≡ Some e = sym here ∙ ap (slice_get last.events.items) (sym at) ∙ there in
+                let is : x.event ≡ e = cc found in
+                let base : base_of seat.home n ≡ e.base = sym x.base_is ∙ ap (λ (y : Event S). y.base) is in
+                subst (λ (b : ℕ). 0 < times b (seat.places ++ run_of n (length last.events.items - n))) base
+                (rests_by seat.home n seat.places (run_of n (length last.events.items - n)) new l.home));
             home = subst (λ (o : Option ℕ). IsHome o (seat.places ++ run_of n (length last.events.items - n))) (sym (x.home_is ∙ ap Some x.base_is))
                 (rests_by seat.home n seat.places (run_of n (length last.events.items - n)) new l.home);
             home_stays = λ home is. x.home_is ∙ ap Some (x.base_is ∙ ap (λ (o : Option ℕ). base_of o n) is);

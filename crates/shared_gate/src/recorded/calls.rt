@@ -44,7 +44,11 @@ fn told_key(behind: Option<&Key>) -> Option<Snapshot<Key>>
 
 impl<S: ObjectStore, K: Clock, L: SourceLog> Recorded<S, K, L> {
     /// The checkpoints, the last opstamp and the revision.
-    pub fn checkpoints(&mut self, alloc: Global, home: &mut Option<u64>) -> Result<Marks, WorldError>
+    pub fn checkpoints(
+        &mut self,
+        alloc: Global,
+        home: &mut Option<u64>,
+    ) -> Result<Marks, WorldError>
         ensures { Records (of_checkpoints) (None) (None) (marks_act result) result home.old home.new self.old self.new }
     {
         match self.begin() {
@@ -73,7 +77,13 @@ impl<S: ObjectStore, K: Clock, L: SourceLog> Recorded<S, K, L> {
     }
 
     /// Stages a split file of these parts with these facts, under the next number.
-    pub fn stage(&mut self, alloc: Global, delta: &Delta, facts: &RowFacts, home: &mut Option<u64>) -> Result<Staged, WorldError>
+    pub fn stage(
+        &mut self,
+        alloc: Global,
+        delta: &Delta,
+        facts: &RowFacts,
+        home: &mut Option<u64>,
+    ) -> Result<Staged, WorldError>
         requires { CanSpellFacts facts.now }
         ensures { Records (of_stage delta.now facts.now) (number_given result) (None) (stage_act delta.now facts.now result) result home.old home.new self.old self.new }
     {
@@ -82,14 +92,27 @@ impl<S: ObjectStore, K: Clock, L: SourceLog> Recorded<S, K, L> {
             Ok(()) => {
                 let staged = self.world.stage(alloc, delta, facts);
                 let number = number_given(&staged);
-                self.note(Call::Stage { delta: Snapshot::of(delta), facts: Snapshot::of(facts), number }, home);
+                self.note(
+                    Call::Stage {
+                        delta: Snapshot::of(delta),
+                        facts: Snapshot::of(facts),
+                        number,
+                    },
+                    home,
+                );
                 staged
             }
         }
     }
 
     /// Makes the file of a staged row.
-    pub fn upload(&mut self, alloc: Global, staged: Staged, content: &[u8], home: &mut Option<u64>) -> Result<Uploaded, WorldError>
+    pub fn upload(
+        &mut self,
+        alloc: Global,
+        staged: Staged,
+        content: &[u8],
+        home: &mut Option<u64>,
+    ) -> Result<Uploaded, WorldError>
         ensures { Records (of_upload staged.number content.now) (None) (Some staged.number) (upload_act staged.number content.now result) result home.old home.new self.old self.new }
     {
         match self.begin() {
@@ -104,7 +127,12 @@ impl<S: ObjectStore, K: Clock, L: SourceLog> Recorded<S, K, L> {
     }
 
     /// Publishes an uploaded file.
-    pub fn publish(&mut self, alloc: Global, uploaded: Uploaded, home: &mut Option<u64>) -> Result<u64, WorldError>
+    pub fn publish(
+        &mut self,
+        alloc: Global,
+        uploaded: Uploaded,
+        home: &mut Option<u64>,
+    ) -> Result<u64, WorldError>
         ensures { Records (of_publish uploaded.number) (None) (None) (publish_act uploaded.number result) result home.old home.new self.old self.new }
     {
         match self.begin() {
@@ -119,7 +147,14 @@ impl<S: ObjectStore, K: Clock, L: SourceLog> Recorded<S, K, L> {
     }
 
     /// Replaces the rows of a plan by an uploaded file.
-    pub fn replace(&mut self, alloc: Global, plan: &Plan, uploaded: Uploaded, upto: u64, home: &mut Option<u64>) -> Result<u64, WorldError>
+    pub fn replace(
+        &mut self,
+        alloc: Global,
+        plan: &Plan,
+        uploaded: Uploaded,
+        upto: u64,
+        home: &mut Option<u64>,
+    ) -> Result<u64, WorldError>
         ensures { Records (of_replace uploaded.number (numbers_of plan.now.rows) upto) (None) (None) (replace_act uploaded.number (numbers_of plan.now.rows) upto result) result home.old home.new self.old self.new }
     {
         match self.begin() {
@@ -127,14 +162,28 @@ impl<S: ObjectStore, K: Clock, L: SourceLog> Recorded<S, K, L> {
             Ok(()) => {
                 let number = uploaded.number;
                 let revision = self.world.replace(alloc, plan, uploaded, upto);
-                self.note(Call::Replace { number, plan: Snapshot::of(plan), upto }, home);
+                self.note(
+                    Call::Replace {
+                        number,
+                        plan: Snapshot::of(plan),
+                        upto,
+                    },
+                    home,
+                );
                 revision
             }
         }
     }
 
     /// Leaves the file of a planned row as it is, applied up to a task.
-    pub fn raise(&mut self, alloc: Global, plan: &Plan, place: u32, upto: u64, home: &mut Option<u64>) -> Result<u64, WorldError>
+    pub fn raise(
+        &mut self,
+        alloc: Global,
+        plan: &Plan,
+        place: u32,
+        upto: u64,
+        home: &mut Option<u64>,
+    ) -> Result<u64, WorldError>
         requires { place < length plan.now.rows }
         ensures { (row : PlanRow) → slice_get plan.now.rows place ≡ Some row → Records (of_raise row.number upto) (None) (None) (raise_act row.number upto result) result home.old home.new self.old self.new }
     {
@@ -150,7 +199,12 @@ impl<S: ObjectStore, K: Clock, L: SourceLog> Recorded<S, K, L> {
     }
 
     /// Adds a task.
-    pub fn add_task(&mut self, alloc: Global, ask: &DeleteAsk, home: &mut Option<u64>) -> Result<Receipt, WorldError>
+    pub fn add_task(
+        &mut self,
+        alloc: Global,
+        ask: &DeleteAsk,
+        home: &mut Option<u64>,
+    ) -> Result<Receipt, WorldError>
         requires { CanAsk ask.now }
         ensures { Records (of_task ask.now) (None) (None) (task_act ask.now result) result home.old home.new self.old self.new }
     {
@@ -158,28 +212,51 @@ impl<S: ObjectStore, K: Clock, L: SourceLog> Recorded<S, K, L> {
             Err(error) => Err(WorldError::Memory(error)),
             Ok(()) => {
                 let receipt = self.world.add_task(alloc, ask);
-                self.note(Call::Task { ask: Snapshot::of(ask) }, home);
+                self.note(
+                    Call::Task {
+                        ask: Snapshot::of(ask),
+                    },
+                    home,
+                );
                 receipt
             }
         }
     }
 
     /// Plans rows over the newest state.
-    pub fn plan(&mut self, alloc: Global, choice: &Choice, home: &mut Option<u64>) -> Result<Plan, WorldError>
+    pub fn plan(
+        &mut self,
+        alloc: Global,
+        choice: &Choice,
+        home: &mut Option<u64>,
+    ) -> Result<Plan, WorldError>
         ensures { Records (of_plan choice.now) (None) (None) (plan_act choice.now result) result home.old home.new self.old self.new }
     {
         match self.begin() {
             Err(error) => Err(WorldError::Memory(error)),
             Ok(()) => {
                 let plan = self.world.plan(alloc, choice);
-                self.note(Call::Plan { choice: Snapshot::of(choice) }, home);
+                self.note(
+                    Call::Plan {
+                        choice: Snapshot::of(choice),
+                    },
+                    home,
+                );
                 plan
             }
         }
     }
 
     /// Bytes of a planned row's file.
-    pub fn fetch(&mut self, alloc: Global, plan: &Plan, place: u32, from: u64, len: u64, home: &mut Option<u64>) -> Result<Piece, WorldError>
+    pub fn fetch(
+        &mut self,
+        alloc: Global,
+        plan: &Plan,
+        place: u32,
+        from: u64,
+        len: u64,
+        home: &mut Option<u64>,
+    ) -> Result<Piece, WorldError>
         requires { place < length plan.now.rows }
         ensures { (row : PlanRow) → slice_get plan.now.rows place ≡ Some row → Records (of_fetch row.number from len) (None) (None) (fetch_act plan.now row.number from len result) result home.old home.new self.old self.new }
     {
@@ -238,7 +315,12 @@ impl<S: ObjectStore, K: Clock, L: SourceLog> Recorded<S, K, L> {
     }
 
     /// A page of the numbers that may be swept.
-    pub fn sweep_list(&mut self, alloc: Global, behind: Option<&Key>, home: &mut Option<u64>) -> Result<SweepPage, WorldError>
+    pub fn sweep_list(
+        &mut self,
+        alloc: Global,
+        behind: Option<&Key>,
+        home: &mut Option<u64>,
+    ) -> Result<SweepPage, WorldError>
         ensures { Records (of_sweep_list (option_copied behind.entry)) (None) (None) (list_act (option_copied behind.entry) result) result home.old home.new self.old self.new }
     {
         match self.begin() {

@@ -27,7 +27,8 @@ fn fetched_behind(count: u128, piece: &Result<Piece, WorldError>) -> u128
     }
 }
 
-impl<'a, R: Wait, S: ObjectStore, K: Clock, L: SourceLog> Gate for Shared<'a, R, Recorded<S, K, L>> {
+impl<'a, R: Wait, S: ObjectStore, K: Clock, L: SourceLog> Gate
+    for Shared<'a, R, Recorded<S, K, L>> {
     ghost use Rattle.shared_gate.specs.Sharing.{Passes, SeatAdds, SeatAnswers, SeatBegins, SeatOwns, SeatSince, SeatStands, seat_of, seat_told};
     ghost use Rattle.shared_gate.specs.SharedLaws.{none_passes, passes_go, seat_adds_more, seat_adds_none, seat_is_sound, seat_since_begins, seat_since_more, seat_since_owns, seat_since_same};
 
@@ -91,14 +92,24 @@ impl<'a, R: Wait, S: ObjectStore, K: Clock, L: SourceLog> Gate for Shared<'a, R,
         moment
     }
 
-    fn stage(&mut self, alloc: Global, delta: &Delta, facts: &RowFacts) -> Result<Staged, WorldError> {
+    fn stage(
+        &mut self,
+        alloc: Global,
+        delta: &Delta,
+        facts: &RowFacts,
+    ) -> Result<Staged, WorldError> {
         let mut turn = self.lock.turn(self.rt, &mut self.pass);
         let staged = turn.value.stage(alloc, delta, facts, &mut self.home);
         self.lock.done(turn, &mut self.pass);
         staged
     }
 
-    fn upload(&mut self, alloc: Global, staged: Staged, content: &[u8]) -> Result<Uploaded, WorldError> {
+    fn upload(
+        &mut self,
+        alloc: Global,
+        staged: Staged,
+        content: &[u8],
+    ) -> Result<Uploaded, WorldError> {
         let mut turn = self.lock.turn(self.rt, &mut self.pass);
         let uploaded = turn.value.upload(alloc, staged, content, &mut self.home);
         self.lock.done(turn, &mut self.pass);
@@ -112,14 +123,28 @@ impl<'a, R: Wait, S: ObjectStore, K: Clock, L: SourceLog> Gate for Shared<'a, R,
         revision
     }
 
-    fn replace(&mut self, alloc: Global, plan: &Plan, uploaded: Uploaded, upto: u64) -> Result<u64, WorldError> {
+    fn replace(
+        &mut self,
+        alloc: Global,
+        plan: &Plan,
+        uploaded: Uploaded,
+        upto: u64,
+    ) -> Result<u64, WorldError> {
         let mut turn = self.lock.turn(self.rt, &mut self.pass);
-        let revision = turn.value.replace(alloc, plan, uploaded, upto, &mut self.home);
+        let revision = turn
+            .value
+            .replace(alloc, plan, uploaded, upto, &mut self.home);
         self.lock.done(turn, &mut self.pass);
         revision
     }
 
-    fn raise(&mut self, alloc: Global, plan: &Plan, place: u32, upto: u64) -> Result<u64, WorldError> {
+    fn raise(
+        &mut self,
+        alloc: Global,
+        plan: &Plan,
+        place: u32,
+        upto: u64,
+    ) -> Result<u64, WorldError> {
         let mut turn = self.lock.turn(self.rt, &mut self.pass);
         let revision = turn.value.raise(alloc, plan, place, upto, &mut self.home);
         self.lock.done(turn, &mut self.pass);
@@ -140,9 +165,18 @@ impl<'a, R: Wait, S: ObjectStore, K: Clock, L: SourceLog> Gate for Shared<'a, R,
         plan
     }
 
-    fn fetch(&mut self, alloc: Global, plan: &Plan, place: u32, from: u64, len: u64) -> Result<Piece, WorldError> {
+    fn fetch(
+        &mut self,
+        alloc: Global,
+        plan: &Plan,
+        place: u32,
+        from: u64,
+        len: u64,
+    ) -> Result<Piece, WorldError> {
         let mut turn = self.lock.turn(self.rt, &mut self.pass);
-        let piece = turn.value.fetch(alloc, plan, place, from, len, &mut self.home);
+        let piece = turn
+            .value
+            .fetch(alloc, plan, place, from, len, &mut self.home);
         self.lock.done(turn, &mut self.pass);
         self.fetched = fetched_behind(self.fetched, &piece);
         piece
