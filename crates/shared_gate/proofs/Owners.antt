@@ -56,7 +56,7 @@ module _ {Lock S K L : Type 0} where
     lent_is = l.standing.last ∙ (λ i. last_world (l.opened i) (sym l.seen.1 i)) ∙ last_append seat.opened seat.seen l.seen.0
 
     home_is : (home : ℕ) → seat.home ≡ Some home → 0 < times home seat.places
-    home_is home is = subst (λ (o : Option ℕ). IsHome o seat.places) is l.home
+    home_is home is = l.home home is
 
     -- none of them uploads under an own number
     none_uses : (log : Log) → SeatBegins told seat log → (number : ℕ) → SeatOwns seat number → (k : ℕ) (e : Event S) → slice_get l.seen.0 k ≡ Some e → uploaded_by e.call ≡ Some number → ⊥

@@ -81,12 +81,17 @@ module _ {Lock S K L : Type 0} (told : L → Option Log) where
     pub home_stays : (home : ℕ) → seat.home ≡ Some home → new_home ≡ Some home
 
   home_on : (home : Option ℕ) (places more : List ℕ) → IsHome home places → IsHome home (places ++ more)
-  home_on None places more h = tt
-  home_on (Some home) places more h = in_front home places more h
+  home_on home places more h = λ place is. in_front place places more (h place is)
+
+  home_at : (base : ℕ) (home : Option ℕ) (places : List ℕ) → home ≡ Some base → 0 < times base places → IsHome home places
+  home_at base home places at some = λ place is. (
+    let both : ◌≡◌ {A = Option ℕ} (Some base) (Some place) = sym at ∙ is in
+    let same : base ≡ place = cc both in
+    subst (λ (n : ℕ). 0 < times n places) same some)
 
   rests_by : (home : Option ℕ) (n : ℕ) (places more : List ℕ) → 0 < times n (places ++ more) → IsHome home places → 0 < times (base_of home n) (places ++ more)
   rests_by None n places more here h = here
-  rests_by (Some home) n places more here h = in_front home places more h
+  rests_by (Some home) n places more here h = in_front home places more (h home refl)
 
   module _ (seat : Seat Lock S L) (new_home : Option ℕ) (lent last : Recorded S K L) (l : IsLent told seat lent) where
     pub unheard_back : {A : Type 0} (result : Result A WorldError) → Unheard result seat.home new_home lent last → GivenBack seat new_home lent last
@@ -178,7 +183,7 @@ module _ {Lock S K L : Type 0} (told : L → Option Log) where
                 let base : base_of seat.home n ≡ e.base = sym x.base_is ∙ ap (λ (y : Event S). y.base) is in
                 subst (λ (b : ℕ). 0 < times b (seat.places ++ run_of n (length last.events.items - n))) base
                 (rests_by seat.home n seat.places (run_of n (length last.events.items - n)) new l.home));
-            home = subst (λ (o : Option ℕ). IsHome o (seat.places ++ run_of n (length last.events.items - n))) (sym (x.home_is ∙ ap Some x.base_is))
+            home = home_at (base_of seat.home n) new_home (seat.places ++ run_of n (length last.events.items - n)) (x.home_is ∙ ap Some x.base_is)
                 (rests_by seat.home n seat.places (run_of n (length last.events.items - n)) new l.home);
             home_stays = λ home is. x.home_is ∙ ap Some (x.base_is ∙ ap (λ (o : Option ℕ). base_of o n) is);
           }

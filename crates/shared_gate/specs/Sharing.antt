@@ -165,5 +165,4 @@ module _ {Lock S L : Type 0} where
 
 -- its home is one of its places
 abbrev pub IsHome : Option ℕ → List ℕ → Type 0
-IsHome None places = ⊤
-IsHome (Some home) places = 0 < times home places
+IsHome home places = (place : ℕ) → home ≡ Some place → 0 < times place places
