@@ -135,6 +135,15 @@ pub kinds_by : {S K L A : Type 0} (ask : Ask) (staged one : Option ℕ) (Act : K
 kinds_by ask staged one Act answered result home new_home old new (inl u) Kinds short kinds = subst Kinds (sym u.is) (short u.error)
 kinds_by ask staged one Act answered result home new_home old new (inr x) Kinds short kinds = kinds (set_to x.clock old.world) new.world x.acts.1
 
+module _ {Lock S L : Type 0} where
+  -- how a call came to its turn, and what was recorded of it
+  pub record Turned (old new : Seat Lock S L) (ask : Ask) (short : Type 0) (core mid after : Core) : Type 0 where
+    pub passed : Passes core mid
+    pub owned : (number : ℕ) → SeatOwns old number → IsUnusedIn core number → IsUnusedIn mid number
+    pub made : List CallMade
+    pub own : SeatAdds old made new
+    pub once : IsRecorded ask mid after short made
+
 module _ {Lock S K L : Type 0} (told : L → Option Log) where
   -- what the end of a turn made of a seat
   pub record Took (old new : Seat Lock S L) (new_home : Option ℕ) (lent last : Recorded S K L) : Type 0 where
@@ -148,14 +157,6 @@ module _ {Lock S K L : Type 0} (told : L → Option Log) where
     pub left : new.left ≡ old.left
     pub home : new.home ≡ new_home
     pub rises : Rises old.places → Rises new.places
-
-  -- how a call came to its turn, and what was recorded of it
-  pub record Turned (old new : Seat Lock S L) (ask : Ask) (short : Type 0) (core mid after : Core) : Type 0 where
-    pub passed : Passes core mid
-    pub owned : (number : ℕ) → SeatOwns old number → IsUnusedIn core number → IsUnusedIn mid number
-    pub made : List CallMade
-    pub own : SeatAdds old made new
-    pub once : IsRecorded ask mid after short made
 
   module _ (old new : Seat Lock S L) (new_home : Option ℕ) (lent last : Recorded S K L) (l : IsLent told old lent) (back : GivenBack told old new_home lent last) (t : Took old new new_home lent last) where
     pub since_of : SeatSince old new

@@ -29,7 +29,7 @@ use Rattle.shared_gate.specs.declared.call.Call.{Call}
 use Rattle.shared_gate.specs.declared.recorded.Event.{Event}
 use Rattle.shared_gate.specs.declared.recorded.Recorded.{Recorded}
 use Rattle.shared_gate.proofs.Lives.{last_append, linked_snoc, tells_on}
-use Rattle.shared_gate.proofs.Owners.{IsLent, Met, behind_get, home_is, lent_is, linked, meets, unseen}
+use Rattle.shared_gate.proofs.Owners.{IsLent, linked}
 use Rattle.shared_gate.proofs.Premises.{Carries}
 
 -- ---- lists
