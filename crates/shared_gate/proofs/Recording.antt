@@ -11,12 +11,23 @@ use Rattle.index_world.specs.Gate.{ActsWith, IsTrouble, IsGiven}
 use Rattle.index_world.specs.World.{Keeping, WorldStands}
 use Rattle.index_world.specs.declared.world_error.WorldError.{WorldError}
 use Rattle.index_world.specs.declared.world_error.WorldError.TheVariants as errors
-use Rattle.shared_gate.specs.Recording.{Acting, ActingWith, Always, base_of, Entered, IsCalled, IsNoted, Unheard, set_to, swept_call}
+use Rattle.shared_gate.specs.Recording.{Acting, ActingWith, Always, AreOwners, Begun, Entered, IsCalled, IsLinked, IsNoted, IsStanding, Unheard, base_of, last_world, set_to, swept_call}
 use Rattle.shared_gate.specs.declared.call.Call.{Call}
 use Rattle.shared_gate.specs.declared.recorded.Event.{Event}
 use Rattle.shared_gate.specs.declared.recorded.Recorded.{Recorded}
 
+none_there : {S : Type 0} → AreOwners {S = S} []
+none_there k event number there up = let bad : ◌≡◌ {A = Option (Event _)} None (Some event) = there in absurd (cc bad)
+
 module _ {S K L : Type 0} where
+  -- a list that begins
+  pub begun : (told : L → Option Log) (recorded : Recorded S K L) → recorded.events.items ≡ [] → recorded.world ≡ recorded.opened.value → IsStanding told recorded
+  begun told recorded none same = record {
+    linked = subst (λ (es : List (Event S)). IsLinked (Begun told recorded.opened.value recorded.source.value) recorded.opened.value es) (sym none) tt;
+    last = same ∙ ap (λ (es : List (Event S)). last_world recorded.opened.value es) (sym none);
+    owners = subst (λ (es : List (Event S)). AreOwners es) (sym none) none_there;
+  }
+
   pub unheard : {A : Type 0} (error : AllocError) (home : Option ℕ) (old new : Recorded S K L) → old.world.store_faults ≤ last_count → new.world ≡ old.world
       → (new.events.items ≡ old.events.items) × (new.opened.value ≡ old.opened.value) × (new.source.value ≡ old.source.value) → Unheard {A = A} (Err (errors.Memory error)) home home old new
   unheard error home old new within world same = record { error = error; is = refl; within = within; world = world; events = same.0; opened = same.1; source = same.2; home_is = refl }

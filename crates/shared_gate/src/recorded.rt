@@ -2,7 +2,7 @@
 
 ghost use Rattle.std.specs.Prelude.{◌≡◌, ◌<◌, ◌≤◌, ◌^◌, ℕ, [], OnErr, OnOk, length, vec_len, vec_capacity};
 ghost use Rattle.index_world.specs.Core.{last_count};
-ghost use Rattle.shared_gate.specs.Recording.{IsNoted, IsStanding, set_to};
+ghost use Rattle.shared_gate.specs.Recording.{IsNoted, IsStanding, base_of, set_to};
 
 use crate::call::Call;
 use clock_time::{Clock, ScriptClock};
@@ -56,6 +56,16 @@ impl<S: ObjectStore, K: Clock, L: SourceLog> HasHistory for Recorded<S, K, L> {
 
     fn events(&self) -> u64 {
         self.events.len() as u64
+    }
+}
+
+// The place on which the next event rests.
+fn base_of(home: Option<u64>, next: u64) -> u64
+    ensures { result ≡ base_of home next }
+{
+    match home {
+        Some(place) => place,
+        None => next,
     }
 }
 
@@ -115,10 +125,7 @@ impl<S: ObjectStore, K: Clock, L: SourceLog> Recorded<S, K, L> {
         requires { vec_len self.old.events < vec_capacity self.old.events }
         ensures { IsNoted call home.old home.new self.old self.new }
     {
-        let base = match *home {
-            Some(place) => place,
-            None => self.events.len() as u64,
-        };
+        let base = base_of(*home, self.count());
         *home = Some(base);
         let left = Snapshot::of(&self.world);
         let _ = self.events.push(Event { call, base, left });
