@@ -31,9 +31,9 @@ use Rattle.shared_gate.proofs.Turning.{GivenBack, Went, entered_back, last_at, u
 -- ---- what an answer says of telling
 
 where_tells : (old new : Option State) (Says : State → State → Type 0) → WhereTold old new Says → IsSome old → IsSome new
-where_tells None new Says w t = absurd t
+where_tells None new Says w t = absurd (cc t)
 where_tells (Some old) None Says w t = absurd w
-where_tells (Some old) (Some new) Says w t = tt
+where_tells (Some old) (Some new) Says w t = refl
 
 told_same : (old new : Option State) → new ≡ old → IsSome old → IsSome new
 told_same old new same t = subst IsSome (sym same) t
@@ -58,7 +58,7 @@ answers_tell (fetch_answered number planned_at from len result) old new x = wher
 
 where_behind : (a m b : Option State) (Says : State → State → Type 0) → (IsSome a → IsSome m) → WhereTold m b Says → WhereTold a b (Behind Says)
 where_behind None m b Says tells w = tt
-where_behind (Some x) None b Says tells w = absurd (tells tt)
+where_behind (Some x) None b Says tells w = absurd (let bad = tells refl in cc bad)
 where_behind (Some x) (Some y) None Says tells w = w
 where_behind (Some x) (Some y) (Some z) Says tells w = (y, w)
 
@@ -205,7 +205,7 @@ module _ {Lock S K L : Type 0} (told : L → Option Log) where
     -- one call was recorded, as what it left
     entered_turned : (short : Type 0) (ask : Ask) (staged one : Option ℕ) (Act : Keeping → Keeping → Type 0) (x : Entered ask staged one Act old.home new_home lent last) (core after : Core) (log : Log) (met : Met told old lent core log)
         → WorldStands last.world after log → Turned old new ask short core (clocked_at x.clock (last_core core met.steps)) after
-    entered_turned short ask staged one base Act x core after log met stands =
+    entered_turned short ask staged one Act x core after log met stands =
         let n : ℕ = length lent.events.items in
         let grew : new.seen ≡ lent.events.items ++ x.event ∷ [] = t.seen ∙ x.events in
         let long : length last.events.items ≡ n + 1 = ap length x.events ∙ length-append lent.events.items (x.event ∷ []) in

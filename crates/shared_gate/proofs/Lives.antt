@@ -12,6 +12,13 @@ use Rattle.shared_gate.specs.Recording.{IsLinked, IsNewNumber, Leads, Led, Tells
 use Rattle.shared_gate.specs.Sharing.{IsLife, Step, last_core}
 use Rattle.shared_gate.specs.declared.recorded.Event.{Event}
 
+other_than : (one : Option ℕ) (number : ℕ) → (one ≡ Some number → ⊥) → IsOther one number
+other_than None number not = tt
+other_than (Some one) number not = λ e. not (ap Some (sym e))
+
+itself_less : (n : ℕ) → n < n → ⊥
+itself_less n less = omega (arith, less)
+
 module _ {S : Type 0} where
   pub linked_rest : (begun : Log → Type 0) (w : Keeping) (xs ys : List (Event S)) → IsLinked begun w (xs ++ ys) → IsLinked begun (last_world w xs) ys
   linked_rest begun w [] ys l = l
@@ -43,10 +50,6 @@ module _ {S : Type 0} where
     pub unused : (number : ℕ) → ((k : ℕ) (e : Event S) → slice_get es k ≡ Some e → uploaded_by e.call ≡ Some number → ⊥) → IsUnusedIn core number → IsUnusedIn (last_core core steps) number
     pub staged : (number : ℕ) (delta : List Part) (facts : RowFacts) → HasStagedIn core number delta facts → HasStagedIn (last_core core steps) number delta facts
 
-  other_than : (one : Option ℕ) (number : ℕ) → (one ≡ Some number → ⊥) → IsOther one number
-  other_than None number not = tt
-  other_than (Some one) number not = λ e. not (ap Some (sym e))
-
   pub follow : (begun : Log → Type 0) (log : Log) → begun log → (w : Keeping) (es : List (Event S)) (core : Core) → IsLinked begun w es → WorldStands w core log → Followed w es core log
   follow begun log b w [] core l s = record { steps = []; life = tt; stands = s; unused = λ number none u. u; staged = λ number delta facts h. h }
   follow begun log b w (e ∷ es) core l s =
@@ -61,9 +64,6 @@ module _ {S : Type 0} where
       }
 
   -- ---- no number is staged twice
-
-  itself_less : (n : ℕ) → n < n → ⊥
-  itself_less n less = omega (arith, less)
 
   -- a number that was staged is staged by none of these
   none_again : (begun : Log → Type 0) (log : Log) → begun log → (w : Keeping) (es : List (Event S)) (core : Core) (number : ℕ) (delta : List Part) (facts : RowFacts) → IsLinked begun w es → WorldStands w core log

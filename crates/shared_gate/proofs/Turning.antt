@@ -66,6 +66,19 @@ pub record Went (ask : Ask) (staged one : Option ℕ) (mid : Core) (new : Keepin
 pub none_fresh : (mid after : Core) (number : ℕ) → ◌≡◌ {A = Option ℕ} None (Some number) → IsNewNumber mid after number
 none_fresh mid after number bad = absurd (cc bad)
 
+home_on : (home : Option ℕ) (places more : List ℕ) → IsHome home places → IsHome home (places ++ more)
+home_on home places more h = λ place is. in_front place places more (h place is)
+
+home_at : (base : ℕ) (home : Option ℕ) (places : List ℕ) → home ≡ Some base → 0 < times base places → IsHome home places
+home_at base home places at some = λ place is. (
+  let both : ◌≡◌ {A = Option ℕ} (Some base) (Some place) = sym at ∙ is in
+  let same : base ≡ place = cc both in
+  subst (λ (n : ℕ). 0 < times n places) same some)
+
+rests_by : (home : Option ℕ) (n : ℕ) (places more : List ℕ) → 0 < times n (places ++ more) → IsHome home places → 0 < times (base_of home n) (places ++ more)
+rests_by None n places more here h = here
+rests_by (Some home) n places more here h = in_front home places more (h home refl)
+
 module _ {Lock S K L : Type 0} (told : L → Option Log) where
   -- ---- the turn ends
 
@@ -79,19 +92,6 @@ module _ {Lock S K L : Type 0} (told : L → Option Log) where
         → 0 < times e.base (seat.places ++ run_of (length lent.events.items) (length last.events.items - length lent.events.items))
     pub home : IsHome new_home (seat.places ++ run_of (length lent.events.items) (length last.events.items - length lent.events.items))
     pub home_stays : (home : ℕ) → seat.home ≡ Some home → new_home ≡ Some home
-
-  home_on : (home : Option ℕ) (places more : List ℕ) → IsHome home places → IsHome home (places ++ more)
-  home_on home places more h = λ place is. in_front place places more (h place is)
-
-  home_at : (base : ℕ) (home : Option ℕ) (places : List ℕ) → home ≡ Some base → 0 < times base places → IsHome home places
-  home_at base home places at some = λ place is. (
-    let both : ◌≡◌ {A = Option ℕ} (Some base) (Some place) = sym at ∙ is in
-    let same : base ≡ place = cc both in
-    subst (λ (n : ℕ). 0 < times n places) same some)
-
-  rests_by : (home : Option ℕ) (n : ℕ) (places more : List ℕ) → 0 < times n (places ++ more) → IsHome home places → 0 < times (base_of home n) (places ++ more)
-  rests_by None n places more here h = here
-  rests_by (Some home) n places more here h = in_front home places more (h home refl)
 
   module _ (seat : Seat Lock S L) (new_home : Option ℕ) (lent last : Recorded S K L) (l : IsLent told seat lent) where
     pub unheard_back : {A : Type 0} (result : Result A WorldError) → Unheard result seat.home new_home lent last → GivenBack seat new_home lent last
