@@ -71,9 +71,9 @@ home_on home places more h = λ place is. in_front place places more (h place is
 
 home_at : (base : ℕ) (home : Option ℕ) (places : List ℕ) → home ≡ Some base → 0 < times base places → IsHome home places
 home_at base home places at some = λ place is. (
-  let both : ◌≡◌ {A = Option ℕ} (Some base) (Some place) = sym at ∙ is in
-  let same : base ≡ place = cc both in
-  subst (λ (n : ℕ). 0 < times n places) same some)
+    let both : ◌≡◌ {A = Option ℕ} (Some base) (Some place) = sym at ∙ is in
+    let same : base ≡ place = cc both in
+    subst (λ (n : ℕ). 0 < times n places) same some)
 
 rests_by : (home : Option ℕ) (n : ℕ) (places more : List ℕ) → 0 < times n (places ++ more) → IsHome home places → 0 < times (base_of home n) (places ++ more)
 rests_by None n places more here h = here
