@@ -1,5 +1,5 @@
 -- The parts of a split, as they are held to be written.
-use Rattle.std.specs.Prelude.{◌≡◌, ℕ, ◌<◌, ◌^◌, List, ◌++◌, length}
+use Rattle.std.specs.Prelude.{◌≡◌, ℕ, ◌<◌, ◌^◌, List, ◌++◌, length, drop}
 use Rattle.std.specs.List.{AllByRecursion}
 use Rattle.source_checkpoint.specs.Names.{IsPartition}
 use Rattle.split_bundle.specs.Files.{Parts, NumbersFit, footer_bytes, file_bytes}
@@ -9,7 +9,7 @@ use Rattle.split_build.specs.declared.file.FileParts.{FileParts}
 abbrev pub parts_of : FileParts → List (List ℕ) → Parts
 parts_of f keys = record {
   docs = f.docs;
-  documents = f.documents.items;
+  documents = drop 4 f.begun.items;
   dictionary = f.terms.dictionary;
   postings = f.terms.postings.items;
   positions = f.terms.positions.items;

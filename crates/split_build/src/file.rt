@@ -1,9 +1,9 @@
 //! The footer of a split file, and the file.
 
-ghost use Rattle.std.specs.Prelude.{◌≡◌, ◌++◌, ◌∷◌, [], ◌^◌, ◌<◌, ℕ, List, length, IfOk, OnOk};
+ghost use Rattle.std.specs.Prelude.{◌≡◌, ◌++◌, ◌∷◌, [], ◌^◌, ◌<◌, ℕ, List, length, drop, IfOk, OnOk};
 ghost use Rattle.std.specs.List.{AllByRecursion};
 ghost use Rattle.source_checkpoint.specs.Names.{IsPartition};
-ghost use Rattle.split_bundle.specs.Files.{partitions_bytes, index_bytes, starts_bytes, lengths_bytes, sections_bytes};
+ghost use Rattle.split_bundle.specs.Files.{head, partitions_bytes, index_bytes, starts_bytes, lengths_bytes, sections_bytes};
 
 use crate::column_parts::ColumnSection;
 use crate::term_parts::TermParts;
@@ -17,10 +17,44 @@ use term_dict::BlockIndex;
 #[derive(Drop)]
 pub struct FileParts {
     pub docs: u32,
-    pub documents: Vec<u8>,
+    /// The file up to the end of its documents.
+    pub begun: Vec<u8>,
     pub terms: TermParts,
     pub columns: ColumnSection,
     pub partitions: Vec<Partition>,
+}
+
+// How many bytes of a footer stand for a block of the dictionary, more or less.
+const BLOCK_ROOM: usize = 32;
+
+// How many bytes its other parts take.
+const FOOTER_ROOM: usize = 4096;
+
+// How many bytes stand behind the documents, more or less.
+fn room_behind(terms: &TermParts, columns: &ColumnSection) -> usize {
+    terms
+        .dictionary
+        .len()
+        .saturating_add(terms.postings.len())
+        .saturating_add(terms.positions.len())
+        .saturating_add(columns.bytes.len())
+        .saturating_add(terms.index.len().saturating_mul(BLOCK_ROOM))
+        .saturating_add(FOOTER_ROOM)
+}
+
+/// The first bytes of a file, with room for so many bytes of documents and for what is written behind them.
+pub fn begun_file(
+    alloc: Global,
+    documents: usize,
+    terms: &TermParts,
+    columns: &ColumnSection,
+) -> Result<Vec<u8>, AllocError>
+    ensures { IfOk result (λ begun. begun.items ≡ head) }
+{
+    let room = documents.saturating_add(room_behind(terms, columns));
+    let mut begun = Vec::with_capacity(alloc, room)?;
+    begun.extend_from_slice(&[0x51, 0x57, 0x53, 2])?;
+    Ok(begun)
 }
 
 // A count, and so many texts.
@@ -77,12 +111,19 @@ fn put_all(out: &mut Vec<u8>, bytes: Vec<u8>) -> Result<(), AllocError>
 impl FileParts {
     ghost use Rattle.split_build.specs.Filed.{IsFileOf, IsFooterPut, LengthsFit, parts_of};
 
+    // How many bytes the documents have.
+    fn documents_len(&self) -> usize
+        ensures { result ≡ length (drop 4 self.now.begun.items) }
+    {
+        self.begun.len().saturating_sub(4)
+    }
+
     // The lengths of the sections.
     fn put_lengths(&self, out: &mut Vec<u8>) -> Result<(), AllocError>
         ensures bytes { (keys : List (List ℕ)) → OnOk result (out.new.items ≡ out.old.items ++ lengths_bytes (parts_of self.now keys)) }
         ensures fit { (keys : List (List ℕ)) → OnOk result (LengthsFit (parts_of self.now keys)) }
     {
-        put_varint(out, self.documents.len() as u64)?;
+        put_varint(out, self.documents_len() as u64)?;
         put_varint(out, self.terms.dictionary.len() as u64)?;
         put_varint(out, self.terms.postings.len() as u64)?;
         put_varint(out, self.terms.positions.len() as u64)?;
@@ -102,43 +143,31 @@ impl FileParts {
         Ok(())
     }
 
-    // The sections one behind the other. Each is let go as it stands there.
-    fn put_sections(self, out: &mut Vec<u8>) -> Result<(), AllocError>
-        ensures { (keys : List (List ℕ)) → OnOk result (out.new.items ≡ out.old.items ++ sections_bytes (parts_of self keys)) }
+    // The sections behind the first bytes of a file. Each is let go as it stands there.
+    fn put_sections(self) -> Result<Vec<u8>, AllocError>
+        ensures { (documents : List ℕ) (keys : List (List ℕ)) → self.begun.items ≡ head ++ documents → IfOk result (λ out. out.items ≡ head ++ sections_bytes (parts_of self keys)) }
     {
         let FileParts {
-            documents,
+            begun,
             terms,
             columns,
             ..
         } = self;
-        put_all(out, documents)?;
+        let mut out = begun;
         out.extend_from_slice(terms.dictionary.as_slice())?;
-        put_all(out, terms.postings)?;
-        put_all(out, terms.positions)?;
-        put_all(out, columns.bytes)
+        put_all(&mut out, terms.postings)?;
+        put_all(&mut out, terms.positions)?;
+        put_all(&mut out, columns.bytes)?;
+        Ok(out)
     }
 
-    // How many bytes the sections have.
-    fn size(&self) -> usize {
-        self.documents
-            .len()
-            .saturating_add(self.terms.dictionary.len())
-            .saturating_add(self.terms.postings.len())
-            .saturating_add(self.terms.positions.len())
-            .saturating_add(self.columns.bytes.len())
-    }
-
-    /// The file of these parts, for which room is made once. Each section is let go as it stands there.
+    /// The file of these parts. The documents stay where they are, and each section is let go as it stands behind them.
     pub fn write_file(self, alloc: Global) -> Result<Vec<u8>, AllocError>
-        ensures { (keys : List (List ℕ)) → self.terms.count ≡ length keys → IfOk result (λ file. IsFileOf (parts_of self keys) file.items) }
+        ensures { (documents : List ℕ) (keys : List (List ℕ)) → self.begun.items ≡ head ++ documents → self.terms.count ≡ length keys → IfOk result (λ file. IsFileOf (parts_of self keys) file.items) }
     {
         let mut footer = Vec::new(alloc);
         self.put_footer(&mut footer)?;
-        let size = self.size().saturating_add(footer.len());
-        let mut out = Vec::with_capacity(alloc, size.saturating_add(16))?;
-        out.extend_from_slice(&[0x51, 0x57, 0x53, 2])?;
-        self.put_sections(&mut out)?;
+        let mut out = self.put_sections()?;
         out.extend_from_slice(&footer)?;
         put_eight(&mut out, footer.len() as u64)?;
         out.extend_from_slice(&[0x51, 0x57, 0x46, 2])?;
