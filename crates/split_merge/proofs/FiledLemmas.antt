@@ -1,13 +1,15 @@
 -- The file of documents that are kept.
-use Rattle.std.proofs.Common.{◌≡◌, ℕ, zero, suc, ◌+◌, ◌<◌, ◌^◌, List, [], ◌∷◌, ◌++◌, length, min, refl, sym, ap, subst, ◌∙◌, arith}
+use Rattle.std.proofs.Common.{◌≡◌, ℕ, zero, suc, ◌+◌, ◌<◌, ◌^◌, List, [], ◌∷◌, ◌++◌, drop, length, min, refl, sym, ap, subst, ◌∙◌, arith}
 use Rattle.std.specs.Prelude.{Option}
+use Rattle.std.proofs.lemmas.List.{drop_at}
 use Rattle.sha2.specs.Sha256.{sha256}
 use Rattle.doc_value.specs.declared.schema.Schema.{Schema}
 use Rattle.doc_value.specs.Documents.{IsSchema}
 use Rattle.split_states.specs.declared.facts.Times.{Times}
 use Rattle.split_bundle.specs.declared.placed.Placed.{Placed}
 use Rattle.split_bundle.specs.Columns.{fast_fields}
-use Rattle.split_bundle.specs.Documents.{total_weight}
+use Rattle.split_bundle.specs.Documents.{documents_section, total_weight}
+use Rattle.split_bundle.specs.Files.{head}
 use Rattle.split_bundle.specs.Splits.{AreDocumentsOf, IsSplit}
 use Rattle.split_build.specs.declared.builder.BuiltSplit.{BuiltSplit}
 use Rattle.split_build.specs.declared.file.FileParts.{FileParts}
@@ -72,7 +74,7 @@ module _ (s : Schema) (ds : List Placed) (k : KeptDocuments) (schema : IsSchema 
     bytes_are = bytes ∙ is.bytes;
     docs = docs ∙ h.facts.count;
     partitions = sections.partitions;
-    documents_are = sections.documents_are;
+    documents_are = ap (λ (l : List ℕ). drop 4 l) sections.begun_is ∙ drop_at head (documents_section f.partitions.items ds) 4 refl;
     columns = sections.columns;
     facts = facts;
     within = within;
@@ -80,7 +82,7 @@ module _ (s : Schema) (ds : List Placed) (k : KeptDocuments) (schema : IsSchema 
 
   pub is_built : (r : BuiltSplit) (file : List ℕ) (f : FileParts) (terms : AreTermParts s ds f.terms) → r.bytes ≡ file → AreFacts s ds 0 r.bytes r.facts → f.docs ≡ k.facts.count → AreSectionsOf s ds f → IsFileOf (parts_of f terms.keys) file → length file < 2 ^ 64 → IsBuilt s ds r
   is_built r file f terms bytes facts docs sections is small =
-      let parts : ArePartsOf s ds f = record { partitions = sections.partitions; documents_are = sections.documents_are; terms = terms; columns = sections.columns } in
+      let parts : ArePartsOf s ds f = record { partitions = sections.partitions; begun_is = sections.begun_is; terms = terms; columns = sections.columns } in
       record {
         split = subst (λ (l : List ℕ). IsSplit s l ds) (sym bytes) (is_split s ds f file parts are_documents (docs ∙ h.facts.count) is small);
         facts = facts;

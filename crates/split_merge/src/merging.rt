@@ -59,7 +59,7 @@ fn join_within(
     schema: &Schema,
     views: &[SplitView<'_>],
     dropped: &[u64],
-    documents: KeptDocuments,
+    documents: KeptDocuments<'_>,
 ) -> Result<BuiltSplit, MergeError>
     requires schema { IsSchema schema.now }
     requires rise { RiseFrom 0 dropped.now }
@@ -82,7 +82,7 @@ fn join_documents(
     schema: &Schema,
     views: &[SplitView<'_>],
     dropped: &[u64],
-    documents: KeptDocuments,
+    documents: KeptDocuments<'_>,
 ) -> Result<BuiltSplit, MergeError>
     requires schema { IsSchema schema.now }
     requires rise { RiseFrom 0 dropped.now }
