@@ -1,10 +1,7 @@
 -- The parts of documents make their split.
-use Rattle.std.proofs.Common.{◌≡◌, ◌∙◌, ℕ, ◌<◌, ◌^◌, List, length, drop, ap, refl, subst}
-use Rattle.std.proofs.lemmas.List.{drop_at}
+use Rattle.std.proofs.Common.{◌≡◌, ℕ, ◌<◌, ◌^◌, List, length, subst}
 use Rattle.doc_value.specs.declared.schema.Schema.{Schema}
 use Rattle.split_bundle.specs.declared.placed.Placed.{Placed}
-use Rattle.split_bundle.specs.Documents.{documents_section}
-use Rattle.split_bundle.specs.Files.{head}
 use Rattle.split_bundle.specs.Splits.{AreDocumentsOf, IsSplit}
 use Rattle.split_build.specs.declared.file.FileParts.{FileParts}
 use Rattle.split_build.specs.Filed.{parts_of, IsFileOf}
@@ -18,7 +15,7 @@ is_split s ds f file parts are docs is small = record {
     are_documents = are;
     docs = docs;
     partitions = parts.partitions;
-    documents_are = ap (λ (l : List ℕ). drop 4 l) parts.begun_is ∙ drop_at head (documents_section f.partitions.items ds) 4 refl;
+    documents_are = parts.documents_are;
     keys = parts.terms.are_keys;
     dictionary = parts.terms.dictionary;
     lists = parts.terms.lists;

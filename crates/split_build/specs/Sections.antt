@@ -1,10 +1,9 @@
 -- What was taken of documents, and the parts of their split.
-use Rattle.std.specs.Prelude.{◌≡◌, List, ◌++◌}
+use Rattle.std.specs.Prelude.{◌≡◌, List}
 use Rattle.doc_value.specs.declared.schema.Schema.{Schema}
 use Rattle.split_bundle.specs.declared.placed.Placed.{Placed}
 use Rattle.split_bundle.specs.Columns.{AreColumns, fast_fields}
 use Rattle.split_bundle.specs.Documents.{documents_section}
-use Rattle.split_bundle.specs.Files.{head}
 use Rattle.split_bundle.specs.Splits.{AreDocumentsOf, ArePartitions}
 use Rattle.split_build.specs.declared.columns.ColumnLog.{ColumnLog}
 use Rattle.split_build.specs.declared.documents.DocumentLog.{DocumentLog}
@@ -26,6 +25,6 @@ pub record AreLogs (s : Schema) (ds : List Placed) (documents : DocumentLog) (te
 -- the parts of the split of documents
 pub record ArePartsOf (s : Schema) (ds : List Placed) (f : FileParts) : Type 0 where
   pub partitions : ArePartitions ds f.partitions.items
-  pub begun_is : f.begun.items ≡ head ++ documents_section f.partitions.items ds
+  pub documents_are : f.documents.items ≡ documents_section f.partitions.items ds
   pub terms : AreTermParts s ds f.terms
   pub columns : AreColumns ds 0 (fast_fields s) f.columns.starts.items f.columns.bytes.items

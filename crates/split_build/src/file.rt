@@ -1,6 +1,6 @@
 //! The footer of a split file, and the file.
 
-ghost use Rattle.std.specs.Prelude.{◌≡◌, ◌++◌, ◌∷◌, [], ◌^◌, ◌<◌, ℕ, List, length, drop, IfOk, OnOk};
+ghost use Rattle.std.specs.Prelude.{◌≡◌, ◌++◌, ◌∷◌, [], ◌^◌, ◌<◌, ℕ, List, length, IfOk, OnOk};
 ghost use Rattle.std.specs.List.{AllByRecursion};
 ghost use Rattle.source_checkpoint.specs.Names.{IsPartition};
 ghost use Rattle.split_bundle.specs.Files.{head, partitions_bytes, index_bytes, starts_bytes, lengths_bytes, sections_bytes};
@@ -17,7 +17,16 @@ use term_dict::BlockIndex;
 #[derive(Drop)]
 pub struct FileParts {
     pub docs: u32,
-    /// The file up to the end of its documents.
+    pub documents: Vec<u8>,
+    pub terms: TermParts,
+    pub columns: ColumnSection,
+    pub partitions: Vec<Partition>,
+}
+
+/// A split file up to the end of its documents, and what it is made of behind them.
+#[derive(Drop)]
+pub struct FileBegun {
+    pub docs: u32,
     pub begun: Vec<u8>,
     pub terms: TermParts,
     pub columns: ColumnSection,
@@ -43,7 +52,7 @@ fn room_behind(terms: &TermParts, columns: &ColumnSection) -> usize {
 }
 
 /// The first bytes of a file, with room for so many bytes of documents and for what is written behind them.
-pub fn begun_file(
+pub fn begin_file(
     alloc: Global,
     documents: usize,
     terms: &TermParts,
@@ -108,20 +117,20 @@ fn put_all(out: &mut Vec<u8>, bytes: Vec<u8>) -> Result<(), AllocError>
     out.extend_from_slice(&bytes)
 }
 
-impl FileParts {
-    ghost use Rattle.split_build.specs.Filed.{IsFileOf, IsFooterPut, LengthsFit, parts_of};
+impl FileBegun {
+    ghost use Rattle.split_build.specs.Filed.{IsFileOf, IsFooterPut, LengthsFit, begun_parts};
 
     // How many bytes the documents have.
     fn documents_len(&self) -> usize
-        ensures { result ≡ length (drop 4 self.now.begun.items) }
+        ensures { (documents : List ℕ) → self.now.begun.items ≡ head ++ documents → result ≡ length documents }
     {
         self.begun.len().saturating_sub(4)
     }
 
     // The lengths of the sections.
     fn put_lengths(&self, out: &mut Vec<u8>) -> Result<(), AllocError>
-        ensures bytes { (keys : List (List ℕ)) → OnOk result (out.new.items ≡ out.old.items ++ lengths_bytes (parts_of self.now keys)) }
-        ensures fit { (keys : List (List ℕ)) → OnOk result (LengthsFit (parts_of self.now keys)) }
+        ensures bytes { (documents : List ℕ) (keys : List (List ℕ)) → self.now.begun.items ≡ head ++ documents → OnOk result (out.new.items ≡ out.old.items ++ lengths_bytes (begun_parts self.now documents keys)) }
+        ensures fit { (documents : List ℕ) (keys : List (List ℕ)) → self.now.begun.items ≡ head ++ documents → OnOk result (LengthsFit (begun_parts self.now documents keys)) }
     {
         put_varint(out, self.documents_len() as u64)?;
         put_varint(out, self.terms.dictionary.len() as u64)?;
@@ -132,7 +141,8 @@ impl FileParts {
     }
 
     fn put_footer(&self, out: &mut Vec<u8>) -> Result<(), AllocError>
-        ensures { (keys : List (List ℕ)) → self.now.terms.count ≡ length keys → OnOk result (IsFooterPut out.old.items out.new.items (parts_of self.now keys)) }
+        ensures { (documents : List ℕ) (keys : List (List ℕ)) → self.now.begun.items ≡ head ++ documents → self.now.terms.count ≡ length keys
+            → OnOk result (IsFooterPut out.old.items out.new.items (begun_parts self.now documents keys)) }
     {
         put_varint(out, u64::from(self.docs))?;
         self.put_lengths(out)?;
@@ -143,11 +153,11 @@ impl FileParts {
         Ok(())
     }
 
-    // The sections behind the first bytes of a file. Each is let go as it stands there.
+    // The file up to the end of its sections. Each is let go as it stands there.
     fn put_sections(self) -> Result<Vec<u8>, AllocError>
-        ensures { (documents : List ℕ) (keys : List (List ℕ)) → self.begun.items ≡ head ++ documents → IfOk result (λ out. out.items ≡ head ++ sections_bytes (parts_of self keys)) }
+        ensures { (documents : List ℕ) (keys : List (List ℕ)) → self.begun.items ≡ head ++ documents → IfOk result (λ out. out.items ≡ head ++ sections_bytes (begun_parts self documents keys)) }
     {
-        let FileParts {
+        let FileBegun {
             begun,
             terms,
             columns,
@@ -161,9 +171,11 @@ impl FileParts {
         Ok(out)
     }
 
-    /// The file of these parts. The documents stay where they are, and each section is let go as it stands behind them.
-    pub fn write_file(self, alloc: Global) -> Result<Vec<u8>, AllocError>
-        ensures { (documents : List ℕ) (keys : List (List ℕ)) → self.begun.items ≡ head ++ documents → self.terms.count ≡ length keys → IfOk result (λ file. IsFileOf (parts_of self keys) file.items) }
+    /// The whole file, where it begins with the first four bytes of a split file and its documents. These stay where they are, and
+    /// each other section is let go as it stands behind them.
+    pub fn finish(self, alloc: Global) -> Result<Vec<u8>, AllocError>
+        ensures { (documents : List ℕ) (keys : List (List ℕ)) → self.begun.items ≡ head ++ documents → self.terms.count ≡ length keys
+            → IfOk result (λ file. IsFileOf (begun_parts self documents keys) file.items) }
     {
         let mut footer = Vec::new(alloc);
         self.put_footer(&mut footer)?;
@@ -172,5 +184,32 @@ impl FileParts {
         put_eight(&mut out, footer.len() as u64)?;
         out.extend_from_slice(&[0x51, 0x57, 0x46, 2])?;
         Ok(out)
+    }
+}
+
+impl FileParts {
+    ghost use Rattle.split_build.specs.Filed.{IsFileOf, parts_of};
+
+    /// The file of these parts, for which room is made once. Each section is let go as it stands there.
+    pub fn write_file(self, alloc: Global) -> Result<Vec<u8>, AllocError>
+        ensures { (keys : List (List ℕ)) → self.terms.count ≡ length keys → IfOk result (λ file. IsFileOf (parts_of self keys) file.items) }
+    {
+        let FileParts {
+            docs,
+            documents,
+            terms,
+            columns,
+            partitions,
+        } = self;
+        let mut begun = begin_file(alloc, documents.len(), &terms, &columns)?;
+        put_all(&mut begun, documents)?;
+        let file = FileBegun {
+            docs,
+            begun,
+            terms,
+            columns,
+            partitions,
+        };
+        file.finish(alloc)
     }
 }

@@ -29,7 +29,7 @@ pub use building::build;
 pub use column_parts::{ColumnSection, column_logs, write_columns};
 pub use columns::{ColumnLog, text_place};
 pub use documents::{DocumentLog, Piece, name_number, places_of, rising_names};
-pub use file::{FileParts, begun_file};
+pub use file::{FileBegun, FileParts, begin_file};
 pub use gathering::Spot;
 pub use key_groups::KeyGroups;
 pub use occurrences::Walker;

@@ -12,7 +12,7 @@ use Rattle.split_bundle.specs.Files.{head}
 use Rattle.split_bundle.specs.Held.{IsHeld}
 use Rattle.split_bundle.specs.Splits.{AreDocumentsOf, ArePartitions}
 use Rattle.split_build.specs.declared.columns.ColumnLog.{ColumnLog}
-use Rattle.split_build.specs.declared.file.FileParts.{FileParts}
+use Rattle.split_build.specs.declared.file.FileBegun.{FileBegun}
 use Rattle.split_build.specs.HeldColumns.{HasColumns}
 use Rattle.split_build.specs.Limits.{most}
 use Rattle.split_merge.specs.declared.kept.KeptDocuments.{KeptDocuments}
@@ -53,7 +53,7 @@ pub record AreToWrite (s : Schema) (documents : List Placed) (log : LentDocument
   pub columns_are : HasColumns documents (fast_fields s) columns
 
 -- the sections of these documents and of their columns
-pub record AreSectionsOf (s : Schema) (documents : List Placed) (f : FileParts) : Type 0 where
+pub record AreSectionsOf (s : Schema) (documents : List Placed) (f : FileBegun) : Type 0 where
   pub partitions : ArePartitions documents f.partitions.items
   pub begun_is : f.begun.items ≡ head ++ documents_section f.partitions.items documents
   pub columns : AreColumns documents 0 (fast_fields s) f.columns.starts.items f.columns.bytes.items

@@ -25,7 +25,7 @@ use doc_value::{Bytes, Schema};
 use sha2::{Digest, Sha256};
 use source_checkpoint::Partition;
 use split_build::{
-    BuiltSplit, ColumnLog, ColumnSection, FileParts, TermParts, begun_file, tag_facts,
+    BuiltSplit, ColumnLog, ColumnSection, FileBegun, TermParts, begin_file, tag_facts,
     write_columns,
 };
 use split_bundle::{SplitError, SplitView};
@@ -86,8 +86,8 @@ fn room_for(weight: u64, count: u32) -> usize {
     weight.saturating_sub(count.saturating_mul(WEIGHT_BESIDE - 9)) as usize
 }
 
-// The file up to the end of its documents, with room for what is written behind them.
-fn file_begun(
+// The bytes of a file up to the end of its documents, with room for what is written behind them.
+fn file_front(
     alloc: Global,
     room: usize,
     documents: LentDocuments<'_>,
@@ -98,14 +98,14 @@ fn file_begun(
     requires { ∥ ((ds : List Placed) × HasLent documents ds) ∥₁ }
     ensures { (ds : List Placed) → HasLent documents ds → IfOk result (λ out. out.items ≡ head ++ documents_section partitions.now ds) }
 {
-    let mut out = begun_file(alloc, room, terms, columns)?;
+    let mut out = begin_file(alloc, room, terms, columns)?;
     documents.put_section(alloc, partitions, &mut out)?;
     mem::drop(documents);
     Ok(out)
 }
 
-// The parts of a file of so many documents, whose terms are there.
-fn file_parts(
+// The file of so many documents, whose terms are there, up to the end of the documents.
+fn begun_of(
     alloc: Global,
     schema: &Schema,
     count: u32,
@@ -113,7 +113,7 @@ fn file_parts(
     documents: LentDocuments<'_>,
     columns: Vec<ColumnLog>,
     terms: TermParts,
-) -> Result<FileParts, AllocError>
+) -> Result<FileBegun, AllocError>
     requires { ∥ ((ds : List Placed) × AreToWrite schema.now ds documents columns.items) ∥₁ }
     ensures docs { IfOk result (λ f. f.docs ≡ count) }
     ensures terms { IfOk result (λ f. f.terms ≡ terms) }
@@ -123,8 +123,8 @@ fn file_parts(
     // The values are let go before the documents are copied.
     mem::drop(columns);
     let partitions = documents.partitions(alloc)?;
-    let begun = file_begun(alloc, room, documents, &partitions, &terms, &section)?;
-    Ok(FileParts {
+    let begun = file_front(alloc, room, documents, &partitions, &terms, &section)?;
+    Ok(FileBegun {
         docs: count,
         begun,
         terms,
@@ -227,8 +227,8 @@ impl<'a> KeptDocuments<'a> {
             ..
         } = facts;
         let room = room_for(weight, count);
-        let parts = file_parts(alloc, schema, count, room, documents, columns, terms)?;
-        let file = parts.write_file(alloc)?;
+        let begun = begun_of(alloc, schema, count, room, documents, columns, terms)?;
+        let file = begun.finish(alloc)?;
         let facts = RowFacts {
             docs: u64::from(count),
             rejected: 0,

@@ -1,6 +1,5 @@
 use Rattle.std.proofs.Common.{◌∙◌, arith}
 use Rattle.std.proofs.lemmas.Result.{IfOk-weaker}
-use Rattle.split_bundle.specs.Documents.{documents_section}
 use Rattle.split_build.specs.Filed.{parts_of, IsFileOf}
 use Rattle.split_build.proofs.BuiltLemmas.{is_split}
 use Rattle.split_build.proofs.sections.file_of.Goals as goal
@@ -12,4 +11,4 @@ pub returns : goal.returns
 returns c = λ ds logs many.
     let parts = c.in_ok-parts.ensures.parts ds logs in
     IfOk-weaker c.write_file.result (λ f. IsFileOf (parts_of c.in_ok-parts.parts parts.terms.keys) f.items) _
-    (λ f is. is_split c.args.schema.now ds c.in_ok-parts.parts f.items parts logs.are_documents (c.in_ok-parts.ensures.count ∙ many) is (omega (arith, f.ok.0, f.small))) (c.write_file.ensures (documents_section c.in_ok-parts.parts.partitions.items ds) parts.terms.keys parts.begun_is parts.terms.count)
+    (λ f is. is_split c.args.schema.now ds c.in_ok-parts.parts f.items parts logs.are_documents (c.in_ok-parts.ensures.count ∙ many) is (omega (arith, f.ok.0, f.small))) (c.write_file.ensures parts.terms.keys parts.terms.count)

@@ -1,6 +1,6 @@
 use Rattle.std.proofs.Common.{◌∙◌, ◌++◌, List, ℕ, ap}
 use Rattle.split_bundle.specs.Documents.{documents_section}
-use Rattle.split_build.proofs.sections.file_begun.Goals as goal
+use Rattle.split_merge.proofs.kept.file_front.Goals as goal
 
 pub put_section-requires : goal.put_section-requires
 put_section-requires c = c.requires

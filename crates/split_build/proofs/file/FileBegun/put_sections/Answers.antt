@@ -1,6 +1,6 @@
 use Rattle.std.proofs.Common.{◌∙◌, ◌++◌, List, ℕ, ap}
 use Rattle.split_build.proofs.FileLemmas.{sections_put}
-use Rattle.split_build.proofs.file.FileParts.put_sections.Goals as goal
+use Rattle.split_build.proofs.file.FileBegun.put_sections.Goals as goal
 
 pub returns : goal.returns
 returns c = λ documents keys begun.
