@@ -1,5 +1,5 @@
 -- Documents in the bytes of their splits.
-use Rattle.std.proofs.Common.{◌≡◌, ℕ, zero, suc, ◌+◌, ◌<◌, List, [], ◌∷◌, ◌++◌, map, length, get_or, Some, refl, sym, ◌∙◌, ap, subst, arith, append_assoc, length-append}
+use Rattle.std.proofs.Common.{◌≡◌, ℕ, zero, suc, ◌+◌, ◌<◌, ◌≤◌, List, [], ◌∷◌, ◌++◌, map, length, drop, get_or, Some, refl, sym, ◌∙◌, ap, subst, arith, append_assoc, length-append}
 use Rattle.std.specs.Prelude.{slice_get}
 use Rattle.std.specs.List.{AllByRecursion, flat_map}
 use Rattle.std.proofs.lemmas.List.{append-nil, length-map}
@@ -16,6 +16,7 @@ use Rattle.split_build.proofs.PartitionLemmas.{get_among}
 use Rattle.split_merge.specs.declared.lent_documents.LentDocument.{LentDocument}
 use Rattle.split_merge.specs.declared.lent_documents.LentDocuments.{LentDocuments}
 use Rattle.split_merge.specs.LentDocuments.{AreLent, HasLent, IsNumbered, in_bytes}
+use Rattle.split_merge.proofs.GatherLemmas.{drop_is}
 
 -- ---- one more document
 
@@ -91,20 +92,64 @@ section_lent l ds partitions places before begun whole is h begun_is whole_is =
 
 -- ---- one document after the other
 
-pub got : (xs : List (List ℕ)) (i : ℕ) (x : List ℕ) → i < length xs → x ≡ get_or xs i x → get_or xs i [] ≡ x
+pub got_again : {X : Type 0} (xs : List X) (i : ℕ) (d : X) → get_or xs i d ≡ get_or xs i (get_or xs i d)
+got_again [] i d = refl
+got_again (y ∷ ys) zero d = refl
+got_again (y ∷ ys) (suc i) d = got_again ys i d
+
+got : (xs : List (List ℕ)) (i : ℕ) (x : List ℕ) → i < length xs → x ≡ get_or xs i x → get_or xs i [] ≡ x
 got [] i x lt is = absurd (omega (arith, lt))
 got (y ∷ ys) zero x lt is = sym is
 got (y ∷ ys) (suc i) x lt is = got ys i x (omega (arith, lt)) is
 
--- where the first of some documents begins
-pub start_put : (out out1 before all : List ℕ) (start next : ℕ) (place : List ℕ) (b : LentDocument) (rest : List (List ℕ)) → out1 ≡ out ++ eight start → next ≡ start + length (place ++ b.body.now)
-    → out ++ flat_map eight (starts start ((place ++ b.body.now) ∷ rest)) ≡ before ++ all → out1 ++ flat_map eight (starts next rest) ≡ before ++ all
-start_put out out1 before all start next place b rest out_is next_is put =
-    ap (λ (l : List ℕ). l ++ flat_map eight (starts next rest)) out_is ∙ append_assoc out (eight start) (flat_map eight (starts next rest))
-    ∙ ap (λ (n : ℕ). out ++ (eight start ++ flat_map eight (starts n rest))) next_is ∙ put
+none_past : {X : Type 0} (xs : List X) (i : ℕ) → length xs ≤ i → drop i xs ≡ []
+none_past [] zero le = refl
+none_past [] (suc i) le = refl
+none_past (x ∷ xs) zero le = absurd (omega (arith, le))
+none_past (x ∷ xs) (suc i) le = none_past xs i (omega (arith, le))
 
--- the first of some documents
-pub document_put : (out out1 out2 before all : List ℕ) (place : List ℕ) (b : LentDocument) (rest : List (List ℕ)) → out1 ≡ out ++ place → out2 ≡ out1 ++ b.body.now → out ++ ((place ++ b.body.now) ++ joined rest) ≡ before ++ all
-    → out2 ++ joined rest ≡ before ++ all
-document_put out out1 out2 before all place b rest one two put =
-    ap (λ (l : List ℕ). l ++ joined rest) (two ∙ ap (λ (l : List ℕ). l ++ b.body.now) one ∙ append_assoc out place b.body.now) ∙ append_assoc out (place ++ b.body.now) (joined rest) ∙ put
+module _ (places : List (List ℕ)) (bs : List LentDocument) (i : ℕ) where
+  module _ (d : LentDocument) where
+    abbrev first : LentDocument
+    first = get_or bs i d
+
+    module _ (lt : i < length bs) (all_are : AllByRecursion (IsNumbered places) (drop i bs)) where
+      front : drop i bs ≡ first ∷ drop (i + 1) bs
+      front = drop_is bs i first d lt refl
+
+      here : AllByRecursion (IsNumbered places) (first ∷ drop (i + 1) bs)
+      here = subst (λ (l : List LentDocument). AllByRecursion (IsNumbered places) l) front all_are
+
+      pub numbered_at : first.name < length places
+      numbered_at = here.0
+
+      in_front : (place : List ℕ) → place ≡ get_or places first.name place → in_bytes places (drop i bs) ≡ (place ++ first.body.now) ∷ in_bytes places (drop (i + 1) bs)
+      in_front place is =
+          ap (λ (l : List LentDocument). in_bytes places l) front ∙ ap (λ (p : List ℕ). (p ++ first.body.now) ∷ in_bytes places (drop (i + 1) bs)) (got places first.name place here.0 is)
+
+  pub start_step : (d : LentDocument) (out out1 before all : List ℕ) (start next : ℕ) (place : List ℕ) → i < length bs → AllByRecursion (IsNumbered places) (drop i bs) → place ≡ get_or places (get_or bs i d).name place
+      → out1 ≡ out ++ eight start → next ≡ start + length (place ++ (get_or bs i d).body.now) → out ++ flat_map eight (starts start (in_bytes places (drop i bs))) ≡ before ++ all
+      → AllByRecursion (IsNumbered places) (drop (i + 1) bs) × (out1 ++ flat_map eight (starts next (in_bytes places (drop (i + 1) bs))) ≡ before ++ all)
+  start_step d out out1 before all start next place lt all_are is out_is next_is put = (
+    (here d lt all_are).1,
+    ap (λ (l : List ℕ). l ++ flat_map eight (starts next (in_bytes places (drop (i + 1) bs)))) out_is ∙ append_assoc out (eight start) (flat_map eight (starts next (in_bytes places (drop (i + 1) bs))))
+        ∙ ap (λ (n : ℕ). out ++ (eight start ++ flat_map eight (starts n (in_bytes places (drop (i + 1) bs))))) next_is
+        ∙ ap (λ (ls : List (List ℕ)). out ++ flat_map eight (starts start ls)) (sym (in_front d lt all_are place is)) ∙ put,
+  )
+
+  pub start_end : (out out1 before all : List ℕ) (start : ℕ) → length bs ≤ i → out ++ flat_map eight (starts start (in_bytes places (drop i bs))) ≡ before ++ all → out1 ≡ out ++ eight start → out1 ≡ before ++ all
+  start_end out out1 before all start le put out_is =
+      out_is ∙ ap (λ (l : List ℕ). out ++ l) (sym (append-nil (eight start))) ∙ ap (λ (l : List LentDocument). out ++ flat_map eight (starts start (in_bytes places l))) (sym (none_past bs i le)) ∙ put
+
+  pub document_step : (d : LentDocument) (out out1 out2 before all place : List ℕ) → i < length bs → AllByRecursion (IsNumbered places) (drop i bs) → place ≡ get_or places (get_or bs i d).name place
+      → out1 ≡ out ++ place → out2 ≡ out1 ++ (get_or bs i d).body.now → out ++ joined (in_bytes places (drop i bs)) ≡ before ++ all
+      → AllByRecursion (IsNumbered places) (drop (i + 1) bs) × (out2 ++ joined (in_bytes places (drop (i + 1) bs)) ≡ before ++ all)
+  document_step d out out1 out2 before all place lt all_are is one two put = (
+    (here d lt all_are).1,
+    ap (λ (l : List ℕ). l ++ joined (in_bytes places (drop (i + 1) bs))) (two ∙ ap (λ (l : List ℕ). l ++ (get_or bs i d).body.now) one ∙ append_assoc out place (get_or bs i d).body.now)
+        ∙ append_assoc out (place ++ (get_or bs i d).body.now) (joined (in_bytes places (drop (i + 1) bs)))
+        ∙ ap (λ (ls : List (List ℕ)). out ++ joined ls) (sym (in_front d lt all_are place is)) ∙ put,
+  )
+
+  pub document_end : (out before all : List ℕ) → length bs ≤ i → out ++ joined (in_bytes places (drop i bs)) ≡ before ++ all → out ≡ before ++ all
+  document_end out before all le put = sym (append-nil out) ∙ ap (λ (l : List LentDocument). out ++ joined (in_bytes places l)) (sym (none_past bs i le)) ∙ put

@@ -96,7 +96,7 @@ fn file_front(
     columns: &ColumnSection,
 ) -> Result<Vec<u8>, AllocError>
     requires { ∥ ((ds : List Placed) × HasLent documents ds) ∥₁ }
-    ensures { (ds : List Placed) → HasLent documents ds → IfOk result (λ out. out.items ≡ head ++ documents_section partitions.now ds) }
+    ensures { (ds : List Placed) → HasLent documents.entry ds → IfOk result (λ out. out.items ≡ head ++ documents_section partitions.now ds) }
 {
     let mut out = begin_file(alloc, room, terms, columns)?;
     documents.put_section(alloc, partitions, &mut out)?;
@@ -117,7 +117,7 @@ fn begun_of(
     requires { ∥ ((ds : List Placed) × AreToWrite schema.now ds documents columns.items) ∥₁ }
     ensures docs { IfOk result (λ f. f.docs ≡ count) }
     ensures terms { IfOk result (λ f. f.terms ≡ terms) }
-    ensures sections { (ds : List Placed) → AreToWrite schema.now ds documents columns.items → IfOk result (AreSectionsOf schema.now ds) }
+    ensures sections { (ds : List Placed) → AreToWrite schema.now ds documents.entry columns.items → IfOk result (AreSectionsOf schema.now ds) }
 {
     let section = write_columns(alloc, schema, &columns)?;
     // The values are let go before the documents are copied.
@@ -146,6 +146,14 @@ impl<'a> KeptDocuments<'a> {
             documents: LentDocuments::vacant(alloc),
             facts: FieldFacts::vacant(alloc, schema)?,
         })
+    }
+
+    /// How many documents there are, and what they weigh.
+    pub(crate) fn count_and_weight(&self) -> (u32, u64)
+        ensures count { result.0 ≡ self.now.facts.count }
+        ensures weight { result.1 ≡ self.now.weight }
+    {
+        (self.facts.count, self.weight)
     }
 
     // Takes the document of a view with a number, which has these bytes. After an `Err` nothing is said of what is held.
@@ -210,9 +218,9 @@ impl<'a> KeptDocuments<'a> {
         requires schema { IsSchema schema.now }
         requires kept { (documents : List Placed) × HasKept self schema.now documents × AreWithin documents }
         // With any terms: a file of these documents.
-        ensures holds { (documents : List Placed) → HasKept self schema.now documents → AreWithin documents → IfOk result (HoldsDocuments schema.now documents) }
+        ensures holds { (documents : List Placed) → HasKept self.entry schema.now documents → AreWithin documents → IfOk result (HoldsDocuments schema.now documents) }
         // With theirs: their split.
-        ensures built { (documents : List Placed) → HasKept self schema.now documents → AreWithin documents → AreTermParts schema.now documents terms → IfOk result (IsBuilt schema.now documents) }
+        ensures built { (documents : List Placed) → HasKept self.entry schema.now documents → AreWithin documents → AreTermParts schema.now documents terms → IfOk result (IsBuilt schema.now documents) }
     {
         let KeptDocuments {
             weight,

@@ -62,13 +62,11 @@ fn put_starts(
     ensures { OnOk result (out.new.items ≡ out.old.items ++ flat_map eight (starts 0 (in_bytes places.now documents.now))) }
 {
     let mut start = 0;
-    let mut rest = documents;
-    while let Some((document, behind)) = rest.split_first() {
+    for document in documents {
         let LentDocument { name, body } = *document;
         put_eight(out, start)?;
         let next = next_start(start, &places[name], body)?;
         start = next;
-        rest = behind;
     }
     put_eight(out, start)?;
     Ok(())
@@ -83,13 +81,11 @@ fn put_documents(
     requires { AllByRecursion (IsNumbered places.now) documents.now }
     ensures { OnOk result (out.new.items ≡ out.old.items ++ joined (in_bytes places.now documents.now)) }
 {
-    let mut rest = documents;
-    while let Some((document, behind)) = rest.split_first() {
+    for document in documents {
         let LentDocument { name, body } = *document;
         let place = &places[name];
         out.extend_from_slice(place.as_slice())?;
         out.extend_from_slice(body)?;
-        rest = behind;
     }
     Ok(())
 }

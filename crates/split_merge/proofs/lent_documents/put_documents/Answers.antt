@@ -1,26 +1,19 @@
-use Rattle.std.proofs.Common.{◌≡◌, ◌∙◌, ◌++◌, ◌∷◌, [], List, ℕ, ap, get_or, subst, sym}
-use Rattle.std.specs.List.{AllByRecursion, flat_map}
-use Rattle.byte_fields.specs.Spelling.{eight}
-use Rattle.split_bundle.specs.Documents.{joined, starts}
-use Rattle.split_merge.specs.declared.lent_documents.LentDocument.{LentDocument}
-use Rattle.split_merge.specs.LentDocuments.{IsNumbered, in_bytes}
-use Rattle.split_merge.proofs.LentLemmas.{document_put, got}
+use Rattle.std.proofs.Common.{◌∙◌, ◌++◌, List, ℕ, ap, arith}
+use Rattle.split_bundle.specs.Documents.{joined}
+use Rattle.split_merge.specs.LentDocuments.{in_bytes}
+use Rattle.split_merge.proofs.LentLemmas.{document_end, document_step, numbered_at}
 use Rattle.split_merge.proofs.lent_documents.put_documents.Goals as goal
 
 pub bounds-places-name : goal.bounds-places-name
-bounds-places-name c =
-    let here : AllByRecursion (IsNumbered c.args.places.now) (c.in-Some.document.now ∷ c.in-Some.behind.now) = subst (λ (l : List LentDocument). AllByRecursion (IsNumbered c.args.places.now) l) c.in-Some.ensures.cases.0 c.loop-document.invariant.numbered in
-    here.0
+bounds-places-name c = numbered_at c.args.places.now c.args.documents.now c.loop-document.document-index _ c.loop-document-test.true c.loop-document.invariant.numbered
 
 pub loop-document-preserved : goal.loop-document-preserved
 loop-document-preserved c =
-    let here : AllByRecursion (IsNumbered c.args.places.now) (c.in-Some.document.now ∷ c.in-Some.behind.now) = subst (λ (l : List LentDocument). AllByRecursion (IsNumbered c.args.places.now) l) c.in-Some.ensures.cases.0 c.loop-document.invariant.numbered in
-    let place : get_or c.args.places.now c.in-Some.document.now.name [] ≡ c.index-places-name.result = got c.args.places.now c.in-Some.document.now.name c.index-places-name.result here.0 c.index-places-name.is in
-    record {
-      numbered = here.1;
-      put =
-          document_put c.loop-document.out.items c.extend_from_slice.new.self.items c.extend_from_slice-2.new.self.items c.args.out.now.items (joined (in_bytes c.args.places.now c.args.documents.now)) c.index-places-name.result c.in-Some.document.now
-          (in_bytes c.args.places.now c.in-Some.behind.now) (c.in_ok-extend_from_slice.ensures.items ∙ ap (λ (l : List ℕ). c.loop-document.out.items ++ l) c.as_slice.ensures) c.in_ok-extend_from_slice-2.ensures.items
-          (ap (λ (p : List ℕ). c.loop-document.out.items ++ ((p ++ c.in-Some.document.now.body.now) ++ joined (in_bytes c.args.places.now c.in-Some.behind.now))) (sym place)
-          ∙ ap (λ (l : List LentDocument). c.loop-document.out.items ++ joined (in_bytes c.args.places.now l)) (sym c.in-Some.ensures.cases.0) ∙ c.loop-document.invariant.put);
-    }
+    let step = document_step c.args.places.now c.args.documents.now c.loop-document.document-index _ c.loop-document.out.items c.extend_from_slice.new.self.items c.extend_from_slice-in-loop-document.new.self.items c.args.out.now.items _ c.index-places-name.result
+    c.loop-document-test.true c.loop-document.invariant.numbered c.index-places-name.is (c.in_ok-extend_from_slice.ensures.items ∙ ap (λ (l : List ℕ). c.loop-document.out.items ++ l) c.as_slice.ensures) c.in_ok-extend_from_slice-2.ensures.items
+    c.loop-document.invariant.put in
+    record { numbered = step.0; put = step.1 }
+
+pub returns : goal.returns
+returns c =
+    document_end c.args.places.now c.args.documents.now c.loop-document.document-index c.loop-document.out.items c.args.out.now.items (joined (in_bytes c.args.places.now c.args.documents.now)) c.loop-document-test.false c.loop-document.invariant.put

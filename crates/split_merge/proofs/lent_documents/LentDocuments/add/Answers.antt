@@ -1,4 +1,4 @@
-use Rattle.std.proofs.Common.{◌∙◌, List, ℕ, ap, subst, Some}
+use Rattle.std.proofs.Common.{◌≡◌, ◌∙◌, List, ℕ, ap, subst, Some}
 use Rattle.std.specs.List.{AllByRecursion}
 use Rattle.split_merge.proofs.LentLemmas.{lent_more}
 use Rattle.split_merge.proofs.lent_documents.LentDocuments.add.Goals as goal
