@@ -2,7 +2,7 @@
 use Rattle.std.proofs.Common.{◌≡◌, ℕ, zero, suc, ◌+◌, ◌<◌, ◌≤◌, List, [], ◌∷◌, ◌++◌, map, length, take, drop, get_or, Some, refl, sym, ◌∙◌, ap, subst, arith, append_assoc, length-append, inl, inr}
 use Rattle.std.specs.Prelude.{slice_get}
 use Rattle.std.specs.List.{AllByRecursion, flat_map}
-use Rattle.std.proofs.lemmas.List.{append-nil}
+use Rattle.std.proofs.lemmas.List.{append-nil, map_push, take_more}
 use Rattle.std.proofs.lemmas.Option.{slice_get_within}
 use Rattle.byte_fields.specs.Spelling.{varint, eight}
 use Rattle.split_bundle.specs.declared.placed.Placed.{Placed}
@@ -13,6 +13,12 @@ use Rattle.split_build.specs.declared.documents.DocumentLog.{DocumentLog}
 use Rattle.split_build.specs.Bodies.{body_of}
 use Rattle.split_build.specs.Members.{IsAmong}
 use Rattle.split_build.specs.HeldDocuments.{ArePieces, HasDocuments}
+
+-- ---- one more element
+
+pub mapped_more : {X Y : Type 0} (f : X → Y) (xs : List X) (i : ℕ) (x : X) (ys new : List Y) (y : Y) → i < length xs → x ≡ get_or xs i x → new ≡ ys ++ y ∷ [] → y ≡ f x → ys ≡ map f (take i xs) → new ≡ map f (take (i + 1) xs)
+mapped_more {X} {Y} f xs i x ys new y lt is pushed at before =
+    pushed ∙ ap (λ (l : List Y). l ++ y ∷ []) before ∙ ap (λ (z : Y). map f (take i xs) ++ z ∷ []) (at ∙ ap f is) ∙ sym (map_push f (take i xs) (get_or xs i x)) ∙ ap (λ (l : List X). map f l) (sym (take_more xs i x lt))
 
 -- ---- one more document
 
@@ -38,7 +44,7 @@ bodies_push : (ds : List Placed) (d : Placed) → flat_map body_of (ds ++ d ∷ 
 bodies_push [] d = append-nil (body_of d)
 bodies_push (x ∷ xs) d = ap (λ (l : List ℕ). body_of x ++ l) (bodies_push xs d) ∙ sym (append_assoc (body_of x) (flat_map body_of xs) (body_of d))
 
-names_push : (ds : List Placed) (d : Placed) → names_of (ds ++ d ∷ []) ≡ names_of ds ++ d.partition ∷ []
+pub names_push : (ds : List Placed) (d : Placed) → names_of (ds ++ d ∷ []) ≡ names_of ds ++ d.partition ∷ []
 names_push [] d = refl
 names_push (x ∷ xs) d = ap (λ (l : List (List ℕ)). x.partition ∷ l) (names_push xs d)
 
@@ -51,11 +57,11 @@ pub among_end : (ns : List (List ℕ)) (p : List ℕ) → IsAmong (ns ++ p ∷ [
 among_end [] p = inl refl
 among_end (n ∷ ns) p = inr (among_end ns p)
 
-all_more : (ns : List (List ℕ)) (p : List ℕ) (xs : List (List ℕ)) → AllByRecursion (IsAmong ns) xs → AllByRecursion (IsAmong (ns ++ p ∷ [])) xs
+pub all_more : (ns : List (List ℕ)) (p : List ℕ) (xs : List (List ℕ)) → AllByRecursion (IsAmong ns) xs → AllByRecursion (IsAmong (ns ++ p ∷ [])) xs
 all_more ns p [] h = tt
 all_more ns p (x ∷ xs) h = (among_more ns p x h.0, all_more ns p xs h.1)
 
-all_new : (ns : List (List ℕ)) (p : List ℕ) (xs more : List (List ℕ)) → AllByRecursion (IsAmong (ns ++ p ∷ [])) xs → AllByRecursion (λ m. m ≡ p) more → AllByRecursion (IsAmong (ns ++ p ∷ [])) (xs ++ more)
+pub all_new : (ns : List (List ℕ)) (p : List ℕ) (xs more : List (List ℕ)) → AllByRecursion (IsAmong (ns ++ p ∷ [])) xs → AllByRecursion (λ m. m ≡ p) more → AllByRecursion (IsAmong (ns ++ p ∷ [])) (xs ++ more)
 all_new ns p [] [] h new = tt
 all_new ns p [] (m ∷ more) h new = (subst (λ (y : List ℕ). IsAmong (ns ++ p ∷ []) y) (sym new.0) (among_end ns p), all_new ns p [] more h new.1)
 all_new ns p (x ∷ xs) more h new = (h.0, all_new ns p xs more h.1 new)

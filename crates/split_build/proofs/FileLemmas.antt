@@ -36,6 +36,12 @@ unfolding footer_bytes
 footer_put p old o1 o2 o3 o4 o5 o6 one two three four five six =
     put_six old o1 o2 o3 o4 o5 o6 (varint p.docs) (lengths_bytes p) (partitions_bytes p.partitions) (varint (length p.keys)) (index_bytes p.index) (starts_bytes p.column_starts) one two three four five six
 
+-- four pieces behind the documents
+pub sections_put : (begun documents o1 o2 o3 o4 a b c d : List ℕ) → begun ≡ head ++ documents → o1 ≡ begun ++ a → o2 ≡ o1 ++ b → o3 ≡ o2 ++ c → o4 ≡ o3 ++ d → o4 ≡ head ++ (documents ++ (a ++ (b ++ (c ++ d))))
+sections_put begun documents o1 o2 o3 o4 a b c d is one two three four =
+    put_behind begun o1 o4 a (b ++ (c ++ d)) one (put_behind o1 o2 o4 b (c ++ d) two (put_behind o2 o3 o4 c d three four))
+    ∙ ap (λ (l : List ℕ). l ++ (a ++ (b ++ (c ++ d)))) is ∙ append_assoc head documents (a ++ (b ++ (c ++ d)))
+
 pub file_put : (p : Parts) (footer o1 o2 o3 o4 o5 : List ℕ) → footer ≡ [] ++ footer_bytes p → o1 ≡ [] ++ head → o2 ≡ o1 ++ sections_bytes p → o3 ≡ o2 ++ footer → o4 ≡ o3 ++ eight (length footer) → o5 ≡ o4 ++ foot → o5 ≡ file_bytes p
 unfolding file_bytes
 file_put p footer o1 o2 o3 o4 o5 is one two three four five =

@@ -7,7 +7,7 @@ use Rattle.split_bundle.specs.declared.placed.Placed.{Placed}
 use Rattle.split_bundle.specs.Splits.{AreRising, ArePartitions, names_of}
 use Rattle.split_build.specs.declared.documents.DocumentLog.{DocumentLog}
 use Rattle.split_build.specs.declared.documents.Piece.{Piece}
-use Rattle.split_build.specs.HeldDocuments.{ArePieces, HasDocuments, with_name, with_names}
+use Rattle.split_build.specs.HeldDocuments.{AreNamesOf, ArePieces, HasDocuments, with_name, with_names}
 use Rattle.split_build.specs.Members.{IsAmong}
 use Rattle.split_build.proofs.KeysLemmas.{contains_among, among_contains}
 use Rattle.split_build.proofs.RisingLemmas.{with_among, among_with, among_new, with_rises}
@@ -37,30 +37,32 @@ all_among P [] x h among = absurd among
 all_among P (y ∷ ys) x h (inl same) = subst P same h.0
 all_among P (y ∷ ys) x h (inr later) = all_among P ys x h.1 later
 
-get_among : (xs : List (List ℕ)) (i : ℕ) (x : List ℕ) → slice_get xs i ≡ Some x → IsAmong xs x
+pub get_among : (xs : List (List ℕ)) (i : ℕ) (x : List ℕ) → slice_get xs i ≡ Some x → IsAmong xs x
 get_among [] i x e = absurd cc
 get_among (y ∷ ys) zero x e = inl (cc)
 get_among (y ∷ ys) (suc i) x e = inr (get_among ys i x e)
 
-pieces_among : (names : List (List ℕ)) (bs : List Piece) (ds : List Placed) (x : List ℕ) → ArePieces names bs ds → IsAmong (names_of ds) x → IsAmong names x
-pieces_among names [] [] x h among = absurd among
-pieces_among names [] (d ∷ ds) x h among = absurd h
-pieces_among names (b ∷ bs) [] x h among = absurd among
-pieces_among names (b ∷ bs) (d ∷ ds) x h (inl same) = subst (λ (y : List ℕ). IsAmong names y) same (get_among names b.name d.partition h.0)
-pieces_among names (b ∷ bs) (d ∷ ds) x h (inr later) = pieces_among names bs ds x h.2 later
+pieces_among : (names : List (List ℕ)) (bs : List Piece) (ds : List Placed) → ArePieces names bs ds → AllByRecursion (IsAmong names) (names_of ds)
+pieces_among names [] [] h = tt
+pieces_among names [] (d ∷ ds) h = absurd h
+pieces_among names (b ∷ bs) [] h = tt
+pieces_among names (b ∷ bs) (d ∷ ds) h = (get_among names b.name d.partition h.0, pieces_among names bs ds h.2)
 
-pub are_partitions : (l : DocumentLog) (ds : List Placed) (sorted : List (List ℕ)) → sorted ≡ with_names [] l.names.items → AllByRecursion IsPartition sorted → HasDocuments l ds → ArePartitions ds sorted
-are_partitions l ds sorted is good h = record {
-  rising = subst (λ (xs : List (List ℕ)). AreRising xs) (sym is) (names_rise [] l.names.items tt);
+pub are_names : (l : DocumentLog) (ds : List Placed) → HasDocuments l ds → AreNamesOf ds l.names.items
+are_names l ds h = record { known = h.names; all = pieces_among l.names.items l.pieces.items ds h.pieces }
+
+pub are_partitions : (names : List (List ℕ)) (ds : List Placed) (sorted : List (List ℕ)) → sorted ≡ with_names [] names → AllByRecursion IsPartition sorted → AreNamesOf ds names → ArePartitions ds sorted
+are_partitions names ds sorted is good h = record {
+  rising = subst (λ (xs : List (List ℕ)). AreRising xs) (sym is) (names_rise [] names tt);
   names = good;
   exact = λ x. (
     λ c. contains_among (names_of ds) x (of_names x (subst (λ (xs : List (List ℕ)). IsAmong xs x) is (among_contains sorted x c))),
-    λ c. contains_among sorted x (subst (λ (xs : List (List ℕ)). IsAmong xs x) (sym is) (among_names [] l.names.items x (pieces_among l.names.items l.pieces.items ds x h.pieces (among_contains (names_of ds) x c)))),
+    λ c. contains_among sorted x (subst (λ (xs : List (List ℕ)). IsAmong xs x) (sym is) (among_names [] names x (all_among (IsAmong names) (names_of ds) x h.all (among_contains (names_of ds) x c)))),
   );
 }
   where
-    of_names : (x : List ℕ) → IsAmong (with_names [] l.names.items) x → IsAmong (names_of ds) x
-    of_names x here = elim (names_among [] l.names.items x here) [
+    of_names : (x : List ℕ) → IsAmong (with_names [] names) x → IsAmong (names_of ds) x
+    of_names x here = elim (names_among [] names x here) [
       | inl none ↦ absurd none
-      | inr there ↦ all_among (IsAmong (names_of ds)) l.names.items x h.names there
+      | inr there ↦ all_among (IsAmong (names_of ds)) names x h.known there
     ]

@@ -3,6 +3,7 @@ use Rattle.std.specs.Prelude.{◌≡◌, ℕ, ◌<◌, ◌^◌, List, ◌++◌, 
 use Rattle.std.specs.List.{AllByRecursion}
 use Rattle.source_checkpoint.specs.Names.{IsPartition}
 use Rattle.split_bundle.specs.Files.{Parts, NumbersFit, footer_bytes, file_bytes}
+use Rattle.split_build.specs.declared.file.FileBegun.{FileBegun}
 use Rattle.split_build.specs.declared.file.FileParts.{FileParts}
 
 -- what a file of them is made of, whose terms have these keys
@@ -10,6 +11,21 @@ abbrev pub parts_of : FileParts → List (List ℕ) → Parts
 parts_of f keys = record {
   docs = f.docs;
   documents = f.documents.items;
+  dictionary = f.terms.dictionary;
+  postings = f.terms.postings.items;
+  positions = f.terms.positions.items;
+  columns = f.columns.bytes.items;
+  partitions = f.partitions.items;
+  keys = keys;
+  index = f.terms.index;
+  column_starts = f.columns.starts.items;
+}
+
+-- what a file that is begun is made of, with these documents
+abbrev pub begun_parts : FileBegun → List ℕ → List (List ℕ) → Parts
+begun_parts f documents keys = record {
+  docs = f.docs;
+  documents = documents;
   dictionary = f.terms.dictionary;
   postings = f.terms.postings.items;
   positions = f.terms.positions.items;

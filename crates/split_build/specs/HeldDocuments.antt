@@ -17,6 +17,11 @@ ArePieces names [] (d ∷ ds) = ⊥
 ArePieces names (b ∷ bs) [] = ⊥
 ArePieces names (b ∷ bs) (d ∷ ds) = (slice_get names b.name ≡ Some d.partition) × (b.len ≡ length (body_of d)) × ArePieces names bs ds
 
+-- these are the names of the partitions of documents
+pub record AreNamesOf (documents : List Placed) (names : List (List ℕ)) : Type 0 where
+  pub known : AllByRecursion (IsAmong (names_of documents)) names
+  pub all : AllByRecursion (IsAmong names) (names_of documents)
+
 pub record HasDocuments (l : DocumentLog) (documents : List Placed) : Type 0 where
   pub bodies : l.bodies.items ≡ flat_map body_of documents
   pub pieces : ArePieces l.names.items l.pieces.items documents

@@ -40,7 +40,7 @@ pub fn column_logs(alloc: Global, schema: &Schema) -> Result<Vec<ColumnLog>, All
 }
 
 /// Adds a document to each log. After an `Err` nothing is said of them.
-pub fn add_columns(
+pub(crate) fn add_columns(
     alloc: Global,
     logs: &mut Vec<ColumnLog>,
     document: u32,

@@ -7,7 +7,7 @@ ghost use Rattle.split_bundle.specs.Documents.{place_among, documents_section};
 ghost use Rattle.split_build.specs.Bodies.{body_of};
 ghost use Rattle.split_bundle.specs.Splits.{ArePartitions};
 ghost use Rattle.source_checkpoint.specs.Names.{IsPartition};
-ghost use Rattle.split_build.specs.HeldDocuments.{HasDocuments, with_name};
+ghost use Rattle.split_build.specs.HeldDocuments.{AreNamesOf, HasDocuments, with_name};
 
 use byte_fields::{put_eight, put_varint};
 use source_checkpoint::Partition;
@@ -29,8 +29,8 @@ pub struct DocumentLog {
     pub bodies: Vec<u8>,
 }
 
-// The number of a name, which is put behind the others where it is none of them.
-fn number_of(names: &mut Vec<Partition>, name: &Partition) -> Result<usize, AllocError>
+/// The number of a name, which is put behind the others where it is none of them.
+pub fn name_number(names: &mut Vec<Partition>, name: &Partition) -> Result<usize, AllocError>
     ensures grown { OnOk result ((more : List (List ℕ)) × (names.new.items ≡ names.old.items ++ more) × AllByRecursion (λ m. m ≡ name.now) more) }
     ensures number { IfOk result (λ n. slice_get names.new.items n ≡ Some name.now) }
 {
@@ -60,7 +60,7 @@ impl DocumentLog {
         ensures { (documents : List Placed) (d : Placed) → partition.now ≡ d.partition → body.now ≡ body_of d → HasDocuments self.old documents
             → OnOk result (HasDocuments self.new (documents ++ d ∷ [])) }
     {
-        let name = number_of(&mut self.names, partition)?;
+        let name = name_number(&mut self.names, partition)?;
         self.bodies.extend_from_slice(body)?;
         self.pieces.push(Piece {
             name,
@@ -73,13 +73,7 @@ impl DocumentLog {
     pub fn partitions(&self, alloc: Global) -> Result<Vec<Partition>, AllocError>
         ensures { (documents : List Placed) → HasDocuments self.now documents → IfOk result (λ sorted. ArePartitions documents sorted.items) }
     {
-        let mut sorted = Vec::new(alloc);
-        let mut rest = self.names.as_slice();
-        while let Some((name, behind)) = rest.split_first() {
-            insert_name(&mut sorted, name)?;
-            rest = behind;
-        }
-        Ok(sorted)
+        rising_names(alloc, &self.names)
     }
 
     // Appends where the documents begin, and gives them one behind the other. What is held is let go.
@@ -149,6 +143,19 @@ fn insert_name(names: &mut Vec<Partition>, name: &Partition) -> Result<(), Alloc
     Ok(())
 }
 
+/// The names of the partitions of documents in the order of their bytes, each once.
+pub fn rising_names(alloc: Global, names: &[Partition]) -> Result<Vec<Partition>, AllocError>
+    ensures { (documents : List Placed) → AreNamesOf documents names.now → IfOk result (λ sorted. ArePartitions documents sorted.items) }
+{
+    let mut sorted = Vec::new(alloc);
+    let mut rest = names;
+    while let Some((name, behind)) = rest.split_first() {
+        insert_name(&mut sorted, name)?;
+        rest = behind;
+    }
+    Ok(sorted)
+}
+
 // The place of a partition among these, or their count where it is none of them.
 fn place_of(partitions: &[Partition], name: &Partition) -> usize
     ensures { result ≡ place_among partitions.now name.now }
@@ -161,8 +168,8 @@ fn place_of(partitions: &[Partition], name: &Partition) -> usize
     partitions.len()
 }
 
-// The places of names among partitions.
-fn places_of(
+/// The places of names among partitions.
+pub fn places_of(
     alloc: Global,
     names: &[Partition],
     partitions: &[Partition],

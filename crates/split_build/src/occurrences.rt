@@ -420,7 +420,7 @@ impl Walker {
 }
 
 /// A document's values of a field.
-pub fn values_in(doc: &[DocField], number: usize) -> &[Value]
+pub(crate) fn values_in(doc: &[DocField], number: usize) -> &[Value]
     ensures { result.now ≡ values_in doc.now number }
 {
     for part in doc {

@@ -32,7 +32,11 @@ pub fn tag_logs(alloc: Global, schema: &Schema) -> Result<Vec<TagLog>, AllocErro
 }
 
 /// Adds a document to each log. After an `Err` nothing is said of them.
-pub fn add_tags(alloc: Global, logs: &mut Vec<TagLog>, placed: &Placed) -> Result<(), AllocError>
+pub(crate) fn add_tags(
+    alloc: Global,
+    logs: &mut Vec<TagLog>,
+    placed: &Placed,
+) -> Result<(), AllocError>
     ensures { (numbers : List ℕ) (documents : List Placed) → HasTags documents numbers logs.old.items
         → OnOk result (HasTags (documents ++ placed.now ∷ []) numbers logs.new.items) }
 {

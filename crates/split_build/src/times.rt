@@ -34,7 +34,7 @@ fn widened_with(times: Option<Times>, value: &Value) -> Option<Times>
 }
 
 /// The ends of the seconds so far and of those of some values.
-pub fn widened_by(times: Option<Times>, values: &[Value]) -> Option<Times>
+pub(crate) fn widened_by(times: Option<Times>, values: &[Value]) -> Option<Times>
     ensures { (seconds : List ℤ) → AreTimes seconds times → AreTimes (seconds ++ flat_map second_of values.now) result }
 {
     let mut times = times;

@@ -7,20 +7,18 @@ use Rattle.doc_value.specs.Documents.{IsSchema}
 use Rattle.split_states.specs.declared.facts.Times.{Times}
 use Rattle.split_bundle.specs.declared.placed.Placed.{Placed}
 use Rattle.split_bundle.specs.Columns.{fast_fields}
-use Rattle.split_bundle.specs.Documents.{total_weight}
+use Rattle.split_bundle.specs.Documents.{documents_section, total_weight}
 use Rattle.split_bundle.specs.Splits.{AreDocumentsOf, IsSplit}
 use Rattle.split_build.specs.declared.builder.BuiltSplit.{BuiltSplit}
-use Rattle.split_build.specs.declared.file.FileParts.{FileParts}
+use Rattle.split_build.specs.declared.file.FileBegun.{FileBegun}
 use Rattle.split_build.specs.Bodies.{body_of}
 use Rattle.split_build.specs.Builders.{IsBuilt}
 use Rattle.split_build.specs.Facts.{AreFacts}
-use Rattle.split_build.specs.Filed.{IsFileOf, parts_of}
+use Rattle.split_build.specs.Filed.{IsFileOf, begun_parts}
 use Rattle.split_build.specs.Limits.{AreWithin, most}
-use Rattle.split_build.specs.Sections.{ArePartsOf}
 use Rattle.split_build.specs.Tags.{AreTagsOf, tag_numbers}
 use Rattle.split_build.specs.Times.{AreTimes, seconds_in}
 use Rattle.split_build.specs.WrittenTerms.{AreTermParts}
-use Rattle.split_build.proofs.BuiltLemmas.{is_split}
 use Rattle.split_build.proofs.TakenLemmas.{body_weighs, weight_more}
 use Rattle.split_merge.specs.declared.kept.KeptDocuments.{KeptDocuments}
 use Rattle.split_merge.specs.Kept.{AreSectionsOf, AreToWrite, HasKept}
@@ -66,23 +64,43 @@ module _ (s : Schema) (ds : List Placed) (k : KeptDocuments) (schema : IsSchema 
     tags = tags;
   }
 
-  pub holds_documents : (r : BuiltSplit) (file : List ℕ) (f : FileParts) (keys : List (List ℕ)) → r.bytes ≡ file → AreFacts s ds 0 r.bytes r.facts → f.docs ≡ k.facts.count → AreSectionsOf s ds f → IsFileOf (parts_of f keys) file → HoldsDocuments s ds r
+  pub holds_documents : (r : BuiltSplit) (file : List ℕ) (f : FileBegun) (keys : List (List ℕ)) → r.bytes ≡ file → AreFacts s ds 0 r.bytes r.facts → f.docs ≡ k.facts.count → AreSectionsOf s ds f
+      → IsFileOf (begun_parts f (documents_section f.partitions.items ds) keys) file → HoldsDocuments s ds r
   holds_documents r file f keys bytes facts docs sections is = record {
-    parts = parts_of f keys;
+    parts = begun_parts f (documents_section f.partitions.items ds) keys;
     bytes_are = bytes ∙ is.bytes;
     docs = docs ∙ h.facts.count;
     partitions = sections.partitions;
-    documents_are = sections.documents_are;
+    documents_are = refl;
     columns = sections.columns;
     facts = facts;
     within = within;
   }
 
-  pub is_built : (r : BuiltSplit) (file : List ℕ) (f : FileParts) (terms : AreTermParts s ds f.terms) → r.bytes ≡ file → AreFacts s ds 0 r.bytes r.facts → f.docs ≡ k.facts.count → AreSectionsOf s ds f → IsFileOf (parts_of f terms.keys) file → length file < 2 ^ 64 → IsBuilt s ds r
-  is_built r file f terms bytes facts docs sections is small =
-      let parts : ArePartsOf s ds f = record { partitions = sections.partitions; documents_are = sections.documents_are; terms = terms; columns = sections.columns } in
-      record {
-        split = subst (λ (l : List ℕ). IsSplit s l ds) (sym bytes) (is_split s ds f file parts are_documents (docs ∙ h.facts.count) is small);
-        facts = facts;
-        within = within;
-      }
+  is_split : (file : List ℕ) (f : FileBegun) (terms : AreTermParts s ds f.terms) → f.docs ≡ k.facts.count → AreSectionsOf s ds f → IsFileOf (begun_parts f (documents_section f.partitions.items ds) terms.keys) file → length file < 2 ^ 64 → IsSplit s file ds
+  is_split file f terms docs sections is small = record {
+    parts = begun_parts f (documents_section f.partitions.items ds) terms.keys;
+    bytes_are = is.bytes;
+    is_split = record {
+      are_documents = are_documents;
+      docs = docs ∙ h.facts.count;
+      partitions = sections.partitions;
+      documents_are = refl;
+      keys = terms.are_keys;
+      dictionary = terms.dictionary;
+      lists = terms.lists;
+      postings = terms.postings;
+      positions = terms.positions;
+      columns = sections.columns;
+      numbers = is.numbers;
+      size = subst (λ (l : List ℕ). length l < 2 ^ 64) is.bytes small;
+    };
+  }
+
+  pub is_built : (r : BuiltSplit) (file : List ℕ) (f : FileBegun) (terms : AreTermParts s ds f.terms) → r.bytes ≡ file → AreFacts s ds 0 r.bytes r.facts → f.docs ≡ k.facts.count → AreSectionsOf s ds f
+      → IsFileOf (begun_parts f (documents_section f.partitions.items ds) terms.keys) file → length file < 2 ^ 64 → IsBuilt s ds r
+  is_built r file f terms bytes facts docs sections is small = record {
+    split = subst (λ (l : List ℕ). IsSplit s l ds) (sym bytes) (is_split file f terms docs sections is small);
+    facts = facts;
+    within = within;
+  }

@@ -21,3 +21,4 @@ pub mod PlaceListLemmas
 pub mod KeepLemmas
 pub mod FiledLemmas
 pub mod MergeLemmas
+pub mod LentLemmas

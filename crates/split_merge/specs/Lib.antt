@@ -7,6 +7,7 @@ pub mod Terms
 pub mod Merging
 pub mod Reading
 pub mod Lent
+pub mod LentDocuments
 pub mod Facts
 pub mod Scanning
 pub mod Kept

@@ -36,14 +36,14 @@ pub(crate) fn passed(places: &[u64], place: u128) -> (bool, &[u64])
 }
 
 // Takes a document, unless it is dropped.
-fn take_next(
+fn take_next<'a>(
     alloc: Global,
     schema: &Schema,
-    view: &SplitView<'_>,
+    view: &SplitView<'a>,
     doc: u32,
     dropped: bool,
     known: &mut Vec<KnownPlace>,
-    documents: &mut KeptDocuments,
+    documents: &mut KeptDocuments<'a>,
 ) -> Result<(), SplitError>
     requires { doc < view.now.layout.docs }
     ensures places { (before : List Placed) → HasKept documents.old schema.now before → ArePlaces view.now known.old.items → OnOk result (ArePlaces view.now known.new.items) }
@@ -58,13 +58,13 @@ fn take_next(
 
 // Takes the documents of a split, of which the first has a place, without those whose places are named. It gives the
 // places behind them.
-fn take_view<'a>(
+fn take_view<'a, 'b>(
     alloc: Global,
     schema: &Schema,
-    view: &SplitView<'_>,
+    view: &SplitView<'b>,
     places: &'a [u64],
     first: u128,
-    documents: &mut KeptDocuments,
+    documents: &mut KeptDocuments<'b>,
 ) -> Result<&'a [u64], SplitError>
     requires rise { RiseFrom first places.now }
     requires room { first + 2 ^ 32 < 2 ^ 128 }
@@ -113,12 +113,12 @@ pub(crate) fn fault_of(view: usize, error: SplitError) -> MergeError
 }
 
 /// The documents of splits one behind another, without those whose places are dropped.
-pub(crate) fn kept_documents(
+pub(crate) fn kept_documents<'a>(
     alloc: Global,
     schema: &Schema,
-    views: &[SplitView<'_>],
+    views: &[SplitView<'a>],
     dropped: &[u64],
-) -> Result<KeptDocuments, MergeError>
+) -> Result<KeptDocuments<'a>, MergeError>
     requires schema { IsSchema schema.now }
     requires rise { RiseFrom 0 dropped.now }
     ensures exact { KeepsAll schema.now result (read_kept schema.now dropped.now views.now) }

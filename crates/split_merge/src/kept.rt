@@ -1,27 +1,32 @@
 //! The documents that are kept, read in place: in bytes, with the values of their fast fields and their facts.
 
-ghost use Rattle.std.specs.Prelude.{◌≡◌, ◌<◌, [], List, Ok, IfOk, OnOk};
+ghost use Rattle.std.specs.Prelude.{◌≡◌, ◌<◌, ◌++◌, [], List, Ok, IfOk, OnOk};
 ghost use Rattle.doc_value.specs.Documents.{IsSchema};
 ghost use Rattle.sha2.specs.Sha256.{sha256};
 ghost use Rattle.split_bundle.specs.declared.placed.Placed.{Placed};
 ghost use Rattle.split_bundle.specs.DocReading.{doc_part, partition_in};
+ghost use Rattle.split_bundle.specs.Documents.{documents_section};
+ghost use Rattle.split_bundle.specs.Files.{head};
 ghost use Rattle.split_bundle.specs.Reading.{MayGive};
 ghost use Rattle.split_bundle.specs.SplitViews.{pieces_of};
 ghost use Rattle.split_build.specs.Builders.{IsBuilt};
 ghost use Rattle.split_build.specs.Limits.{AreWithin};
 ghost use Rattle.split_build.specs.WrittenTerms.{AreTermParts};
 ghost use Rattle.split_merge.specs.Kept.{AreSectionsOf, AreToWrite};
+ghost use Rattle.split_merge.specs.LentDocuments.{HasLent};
 ghost use Rattle.split_merge.specs.Merging.{HoldsDocuments};
 ghost use Rattle.split_merge.specs.Places.{ArePlaces, HasPlace};
 ghost use Rattle.split_merge.specs.Reading.{alone, behind, document_of};
 
 use crate::facts::FieldFacts;
+use crate::lent_documents::LentDocuments;
 use crate::places::{KnownPlace, known_at};
 use doc_value::{Bytes, Schema};
 use sha2::{Digest, Sha256};
 use source_checkpoint::Partition;
 use split_build::{
-    BuiltSplit, ColumnLog, DocumentLog, FileParts, TermParts, tag_facts, write_columns,
+    BuiltSplit, ColumnLog, ColumnSection, FileBegun, TermParts, begin_file, tag_facts,
+    write_columns,
 };
 use split_bundle::{SplitError, SplitView};
 use split_states::RowFacts;
@@ -33,9 +38,9 @@ const WEIGHT_BESIDE: u64 = 257;
 
 /// The documents that are kept so far: what they weigh, their bytes, their facts, and the values of their fast fields.
 #[derive(Drop)]
-pub(crate) struct KeptDocuments {
+pub(crate) struct KeptDocuments<'a> {
     pub(crate) weight: u64,
-    pub(crate) documents: DocumentLog,
+    pub(crate) documents: LentDocuments<'a>,
     pub(crate) facts: FieldFacts,
 }
 
@@ -74,48 +79,81 @@ fn digest_of(bytes: &[u8]) -> [u8; 32]
     hasher.finalize()
 }
 
-// The parts of a file of so many documents, whose terms are there.
-fn file_parts(
+// How many bytes documents of this weight take: each weighs 257 beside its bytes, and takes nine, for where it begins and for
+// the place of its partition.
+fn room_for(weight: u64, count: u32) -> usize {
+    let count = u64::from(count);
+    weight.saturating_sub(count.saturating_mul(WEIGHT_BESIDE - 9)) as usize
+}
+
+// The bytes of a file up to the end of its documents, with room for what is written behind them.
+fn file_front(
+    alloc: Global,
+    room: usize,
+    documents: LentDocuments<'_>,
+    partitions: &[Partition],
+    terms: &TermParts,
+    columns: &ColumnSection,
+) -> Result<Vec<u8>, AllocError>
+    requires { ∥ ((ds : List Placed) × HasLent documents ds) ∥₁ }
+    ensures { (ds : List Placed) → HasLent documents.entry ds → IfOk result (λ out. out.items ≡ head ++ documents_section partitions.now ds) }
+{
+    let mut out = begin_file(alloc, room, terms, columns)?;
+    documents.put_section(alloc, partitions, &mut out)?;
+    mem::drop(documents);
+    Ok(out)
+}
+
+// The file of so many documents, whose terms are there, up to the end of the documents.
+fn begun_of(
     alloc: Global,
     schema: &Schema,
     count: u32,
-    log: DocumentLog,
+    room: usize,
+    documents: LentDocuments<'_>,
     columns: Vec<ColumnLog>,
     terms: TermParts,
-) -> Result<FileParts, AllocError>
-    requires { ∥ ((documents : List Placed) × AreToWrite schema.now documents log columns.items) ∥₁ }
+) -> Result<FileBegun, AllocError>
+    requires { ∥ ((ds : List Placed) × AreToWrite schema.now ds documents columns.items) ∥₁ }
     ensures docs { IfOk result (λ f. f.docs ≡ count) }
     ensures terms { IfOk result (λ f. f.terms ≡ terms) }
-    ensures sections { (documents : List Placed) → AreToWrite schema.now documents log columns.items → IfOk result (AreSectionsOf schema.now documents) }
+    ensures sections { (ds : List Placed) → AreToWrite schema.now ds documents.entry columns.items → IfOk result (AreSectionsOf schema.now ds) }
 {
     let section = write_columns(alloc, schema, &columns)?;
     // The values are let go before the documents are copied.
     mem::drop(columns);
-    let partitions = log.partitions(alloc)?;
-    let mut documents = Vec::new(alloc);
-    log.put_section(alloc, &partitions, &mut documents)?;
-    Ok(FileParts {
+    let partitions = documents.partitions(alloc)?;
+    let begun = file_front(alloc, room, documents, &partitions, &terms, &section)?;
+    Ok(FileBegun {
         docs: count,
-        documents,
+        begun,
         terms,
         columns: section,
         partitions,
     })
 }
 
-impl KeptDocuments {
+impl<'a> KeptDocuments<'a> {
     ghost use Rattle.split_merge.specs.Kept.{HasKept, Keeps};
 
     /// No documents.
-    pub(crate) fn vacant(alloc: Global, schema: &Schema) -> Result<KeptDocuments, AllocError>
+    pub(crate) fn vacant(alloc: Global, schema: &Schema) -> Result<KeptDocuments<'a>, AllocError>
         requires { IsSchema schema.now }
         ensures { IfOk result (λ k. HasKept k schema.now []) }
     {
         Ok(KeptDocuments {
             weight: 0,
-            documents: DocumentLog::vacant(alloc),
+            documents: LentDocuments::vacant(alloc),
             facts: FieldFacts::vacant(alloc, schema)?,
         })
+    }
+
+    /// How many documents there are, and what they weigh.
+    pub(crate) fn count_and_weight(&self) -> (u32, u64)
+        ensures count { result.0 ≡ self.now.facts.count }
+        ensures weight { result.1 ≡ self.now.weight }
+    {
+        (self.facts.count, self.weight)
     }
 
     // Takes the document of a view with a number, which has these bytes. After an `Err` nothing is said of what is held.
@@ -123,10 +161,10 @@ impl KeptDocuments {
         &mut self,
         alloc: Global,
         schema: &Schema,
-        view: &SplitView<'_>,
+        view: &SplitView<'a>,
         known: &mut Vec<KnownPlace>,
         doc: u32,
-        bytes: &[u8],
+        bytes: &'a [u8],
     ) -> Result<(), SplitError>
         requires { doc < view.now.layout.docs }
         ensures places { (before : List Placed) → HasKept self.old schema.now before → ArePlaces view.now known.old.items → doc_part view.now.layout (pieces_of view.now) doc ≡ Ok bytes.now → OnOk result (ArePlaces view.now known.new.items) }
@@ -155,7 +193,7 @@ impl KeptDocuments {
         &mut self,
         alloc: Global,
         schema: &Schema,
-        view: &SplitView<'_>,
+        view: &SplitView<'a>,
         known: &mut Vec<KnownPlace>,
         doc: u32,
     ) -> Result<(), SplitError>
@@ -180,9 +218,9 @@ impl KeptDocuments {
         requires schema { IsSchema schema.now }
         requires kept { (documents : List Placed) × HasKept self schema.now documents × AreWithin documents }
         // With any terms: a file of these documents.
-        ensures holds { (documents : List Placed) → HasKept self schema.now documents → AreWithin documents → IfOk result (HoldsDocuments schema.now documents) }
+        ensures holds { (documents : List Placed) → HasKept self.entry schema.now documents → AreWithin documents → IfOk result (HoldsDocuments schema.now documents) }
         // With theirs: their split.
-        ensures built { (documents : List Placed) → HasKept self schema.now documents → AreWithin documents → AreTermParts schema.now documents terms → IfOk result (IsBuilt schema.now documents) }
+        ensures built { (documents : List Placed) → HasKept self.entry schema.now documents → AreWithin documents → AreTermParts schema.now documents terms → IfOk result (IsBuilt schema.now documents) }
     {
         let KeptDocuments {
             weight,
@@ -196,8 +234,9 @@ impl KeptDocuments {
             columns,
             ..
         } = facts;
-        let parts = file_parts(alloc, schema, count, documents, columns, terms)?;
-        let file = parts.write_file(alloc)?;
+        let room = room_for(weight, count);
+        let begun = begun_of(alloc, schema, count, room, documents, columns, terms)?;
+        let file = begun.finish(alloc)?;
         let facts = RowFacts {
             docs: u64::from(count),
             rejected: 0,

@@ -8,6 +8,7 @@ mod kept;
 mod key_lists;
 mod key_walks;
 mod lent;
+mod lent_documents;
 mod lists;
 mod merge_error;
 mod merging;

@@ -59,14 +59,14 @@ fn join_within(
     schema: &Schema,
     views: &[SplitView<'_>],
     dropped: &[u64],
-    documents: KeptDocuments,
+    documents: KeptDocuments<'_>,
 ) -> Result<BuiltSplit, MergeError>
     requires schema { IsSchema schema.now }
     requires rise { RiseFrom 0 dropped.now }
     requires kept { (ds : List Placed) × HasKept documents schema.now ds × AreWithin ds }
-    ensures only { (lists : List (List Placed)) → HasKept documents schema.now (kept dropped.now (joined lists)) → AreWithin (kept dropped.now (joined lists)) → AreViewsOf schema.now views.now lists
+    ensures only { (lists : List (List Placed)) → HasKept documents.entry schema.now (kept dropped.now (joined lists)) → AreWithin (kept dropped.now (joined lists)) → AreViewsOf schema.now views.now lists
         → MatchResult result (IsBuilt schema.now (kept dropped.now (joined lists))) IsMemory }
-    ensures holds { (ds : List Placed) → HasKept documents schema.now ds → AreWithin ds → IfOk result (HoldsDocuments schema.now ds) }
+    ensures holds { (ds : List Placed) → HasKept documents.entry schema.now ds → AreWithin ds → IfOk result (HoldsDocuments schema.now ds) }
     ensures cause { IfErr result (Blames schema.now views.now) }
 {
     let numbers = numbers_of(alloc, views, dropped)?;
@@ -82,16 +82,17 @@ fn join_documents(
     schema: &Schema,
     views: &[SplitView<'_>],
     dropped: &[u64],
-    documents: KeptDocuments,
+    documents: KeptDocuments<'_>,
 ) -> Result<BuiltSplit, MergeError>
     requires schema { IsSchema schema.now }
     requires rise { RiseFrom 0 dropped.now }
     requires kept { (ds : List Placed) × HasKept documents schema.now ds }
-    ensures only { (lists : List (List Placed)) → HasKept documents schema.now (kept dropped.now (joined lists)) → AreViewsOf schema.now views.now lists → Merges schema.now (kept dropped.now (joined lists)) result }
-    ensures read { (ds : List Placed) → HasKept documents schema.now ds → MergesRead schema.now ds result }
+    ensures only { (lists : List (List Placed)) → HasKept documents.entry schema.now (kept dropped.now (joined lists)) → AreViewsOf schema.now views.now lists → Merges schema.now (kept dropped.now (joined lists)) result }
+    ensures read { (ds : List Placed) → HasKept documents.entry schema.now ds → MergesRead schema.now ds result }
     ensures cause { IfErr result (HasCause schema.now views.now) }
 {
-    match within_limits(documents.facts.count, documents.weight) {
+    let (count, weight) = documents.count_and_weight();
+    match within_limits(count, weight) {
         Ok(()) => join_within(alloc, schema, views, dropped, documents),
         Err(refusal) => Err(refusal_of(refusal)),
     }

@@ -1,23 +1,5 @@
-use Rattle.std.proofs.Common.{◌≡◌, ◌∙◌, ◌++◌, List, ℕ, ap, length, arith}
-use Rattle.byte_fields.specs.Spelling.{eight}
-use Rattle.split_bundle.specs.Files.{head, footer_bytes}
-use Rattle.split_build.specs.Filed.{parts_of}
-use Rattle.split_build.proofs.FileLemmas.{file_put}
+use Rattle.std.proofs.Common.{◌∙◌, ◌++◌, List, ℕ, ap}
 use Rattle.split_build.proofs.file.FileParts.write_file.Goals as goal
 
 pub returns : goal.returns
-returns c = λ keys count.
-    let foot = c.in_ok-put_footer.ensures keys count in
-    let size : c.len-2.result ≡ length c.put_footer.new.out.items = omega (arith, c.len-2.ensures, c.put_footer.new.out.ok.0) in
-    record {
-      bytes =
-          file_put (parts_of c.args.self keys) c.put_footer.new.out.items c.extend_from_slice.new.self.items c.put_sections.new.out.items c.extend_from_slice-2.new.self.items c.put_eight.new.out.items c.extend_from_slice-3.new.self.items
-          (foot.bytes ∙ ap (λ (l : List ℕ). l ++ footer_bytes (parts_of c.args.self keys)) c.new-footer.ensures.items)
-          (c.in_ok-extend_from_slice.ensures.items ∙ ap (λ (l : List ℕ). l ++ head) c.in_ok-out.ensures.items)
-          (c.in_ok-put_sections.ensures keys)
-          (c.in_ok-extend_from_slice-2.ensures.items ∙ ap (λ (l : List ℕ). c.put_sections.new.out.items ++ l) c.deref.ensures.value)
-          (c.in_ok-put_eight.ensures.ok ∙ ap (λ (n : ℕ). c.extend_from_slice-2.new.self.items ++ eight n) size)
-          c.in_ok-extend_from_slice-3.ensures.items;
-      names = foot.names;
-      numbers = foot.numbers;
-    }
+returns c = λ keys count. c.finish.ensures c.args.self.documents.items keys (c.in_ok-put_all.ensures ∙ ap (λ (l : List ℕ). l ++ c.args.self.documents.items) c.in_ok-begun.ensures) count
