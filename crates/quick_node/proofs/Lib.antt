@@ -39,8 +39,13 @@ mod Gathered
 mod Lateness
 mod Expiring
 mod Timing
+mod Fronts
+mod WorkerLines
+mod Beginning
 mod MergeCalls
 mod Merged
+mod ApplyCalls
+mod Applied
 mod Sources
 pub mod Founding
 pub mod Founded

@@ -28,6 +28,7 @@ use Rattle.node_run.specs.Node.{Node, Line, Open, StepClient, Outcome, client_sa
 use Rattle.node_run.specs.Standing.{GivesLogs, LetGo}
 use Rattle.node_run.specs.Telling.{MayTell}
 use Rattle.node_run.specs.Turns.{Turn, Turns, turns, opened_node}
+use Rattle.quick_node.specs.Applies.{AppliesFrom, SettlesFrom, idle}
 use Rattle.quick_node.specs.CaughtUp.{unseen, CatchesUp}
 use Rattle.quick_node.specs.Collects.{LineCollects, CollectsFrom}
 use Rattle.quick_node.specs.Expires.{ExpiresOver}
@@ -372,6 +373,11 @@ pub record Drives (history : List Entry) (before : Before) (after : After) (stat
   pub replaces : ReplacesFrom exit 0 (length history) [] lines outcomes
   -- a merger has nothing to do only where the policy chooses no rows
   pub rests : RestsFrom exit 0 (length history) lines outcomes
+  -- what a delete worker says is what it did: it applies all tasks to the first row that is behind them, and that row is lost only where the journal
+  -- doesn't allow it
+  pub applies : AppliesFrom exit (length history) idle lines outcomes
+  -- a delete worker has nothing to do only where all published rows are applied up to the last task
+  pub settles : SettlesFrom exit (length history) outcomes
   -- no line tells that a key is foreign or that an entry of the collector is refused, and what fails but for an entry, or for a fetch that comes
   -- too late, is the store
   pub tell : AllByRecursion MayTell outcomes
