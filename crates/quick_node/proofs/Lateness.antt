@@ -9,7 +9,7 @@ use Rattle.meta_journal.specs.declared.entry.Entry.{Entry}
 use Rattle.meta_store.specs.declared.refusal.Refusal.{Refusal}
 use Rattle.source_log.specs.Log.{Log}
 use Rattle.split_states.specs.declared.rows.Row.{Row}
-use Rattle.index_world.specs.Calls.{Effect, done_at_once, done_late, done_never, Fate, Call, Fault, store_fault, is_foreign, is_full, is_expired, Grace, Trouble, faulted, no_memory, Unmade, refused, troubled, Gives, Made, made, exists, failed, adopted_made, and_then_by, appended, asked_and_looked, asked_clock, asking, begun, create_at_end, entry_of, fetched, file_by, file_got, file_made, first_unless, full_answer, get_at_end, got_file, last_create, last_made, last_unless, may_append, may_fail, or_full, or_short, settled, transact, troubled_by, unless_over, upload_made}
+use Rattle.index_world.specs.Calls.{Effect, done_at_once, done_late, done_never, Fate, Call, store_fault, is_foreign, is_full, is_expired, Grace, Trouble, faulted, no_memory, Unmade, refused, troubled, Gives, Made, made, exists, failed, adopted_made, and_then_by, appended, asked_and_looked, asked_clock, asking, begun, create_at_end, entry_of, fetched, file_by, file_got, file_made, first_unless, full_answer, get_at_end, got_file, last_create, last_made, last_unless, may_append, may_fail, or_full, or_short, settled, transact, troubled_by, unless_over, upload_made}
 use Rattle.index_world.specs.Calls as calls
 use Rattle.index_world.specs.Core.{Core, file_at}
 use Rattle.index_world.specs.Gate.{raise_call, replace_call, stage_act, stage_call}
