@@ -39,7 +39,7 @@ use Rattle.quick_node.proofs.ApplyCalls.{all_applied, is_unraised, none_first, p
 use Rattle.quick_node.proofs.Beginning.{RiseFrom, end_rises, lives_say, starts}
 use Rattle.quick_node.proofs.Clocks.{turn_ticks}
 use Rattle.quick_node.proofs.Files.{IsTimed, appended_few}
-use Rattle.quick_node.proofs.Fronts.{crowded_on, entry_on, front_legal, hindered_on, longer, refused_on, replacing_on, same_front, staged_on, staging_on}
+use Rattle.quick_node.proofs.Prefixes.{crowded_on, entry_on, front_legal, hindered_on, longer, refused_on, replacing_on, same_front, staged_on, staging_on}
 use Rattle.quick_node.proofs.MergeCalls.{Appends, appended_says, is_crowded, is_hindered, is_refused, made_stands, stages_now}
 use Rattle.quick_node.proofs.Searching.{prefix_on}
 use Rattle.quick_node.proofs.Timing.{Rises, turn_timed}

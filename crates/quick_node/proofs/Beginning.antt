@@ -1,11 +1,10 @@
 -- What the lines of a call begin with: moments that don't fall, and an opened node with an entry and idle workers. And what is so of the lines that
 -- an opened node answers is so of those of each end.
-use Rattle.std.proofs.Common.{◌≡◌, ℕ, zero, suc, ◌+◌, ◌<◌, ◌≤◌, Bool, true, false, List, [], ◌∷◌, ◌++◌, length, refl, sym, ap, ◌∙◌, subst, inl, inr, arith}
+use Rattle.std.proofs.Common.{◌≡◌, ℕ, ◌+◌, ◌<◌, ◌≤◌, Bool, true, false, List, [], ◌∷◌, ◌++◌, length, refl, sym, ap, ◌∙◌, subst, inl, inr, arith}
 use Rattle.std.proofs.lemmas.Bool.{leb-true}
-use Rattle.std.specs.Prelude.{◌==◌, ◌||◌, None, Result, Ok, Err, ⊤, nat_le}
+use Rattle.std.specs.Prelude.{None, Ok, ⊤, nat_le}
 use Rattle.meta_journal.specs.declared.entry.Entry.{Entry}
-use Rattle.index_world.specs.Calls.{Call, Fate, no_memory, Unread, not_read, begun, load_by, loaded, may_fail, read_journal, store_failed, unless_empty}
-use Rattle.index_world.specs.Calls as calls
+use Rattle.index_world.specs.Calls.{loaded}
 use Rattle.index_world.specs.Core.{Core}
 use Rattle.upkeep_run.specs.Places.{idle}
 use Rattle.node_run.specs.Node.{Node, Line, At, Assign, StepIndexer, RestartIndexer, RestartClient, StepMerger, RestartMerger, StepDeleter, RestartDeleter, StepCollector, RestartCollector, RestartNode, Open, StepClient, Outcome}
@@ -13,10 +12,11 @@ use Rattle.node_run.proofs.CallMoves.{Moves}
 use Rattle.node_run.proofs.Moving.{turn_later}
 use Rattle.quick_node.specs.Reading.{Ending, stopped, ReadsFrom, fit_if, fit_of, fits, falls_or_unknown, last_moment, raw_lines}
 use Rattle.quick_node.specs.Serve.{IsPrefixOf, Before, After, End, by_reading, no_index, opening_failed, read_failed, write_failed, out_of_memory, HasEnd, IsFresh, Answers, RanShort, Lives}
-use Rattle.quick_node.proofs.Files.{IsTimed, begun_still, loaded_few}
-use Rattle.quick_node.proofs.Fronts.{longer}
+use Rattle.quick_node.proofs.Files.{IsTimed, loaded_few}
+use Rattle.quick_node.proofs.Prefixes.{longer}
 use Rattle.quick_node.proofs.Living.{opens_moves}
 use Rattle.quick_node.proofs.Names.{moments_go_on}
+use Rattle.quick_node.proofs.Opened.{loaded_some}
 use Rattle.quick_node.proofs.Searching.{prefix_on}
 use Rattle.quick_node.proofs.Timing.{Rises}
 
@@ -65,29 +65,6 @@ end_rises before after (opening_failed low high) lines e = none_rise lines e
 end_rises before after read_failed lines e = lines_rise (length before.log_faults) (length before.input) 0 [] (raw_lines before.input) lines stopped e.0
 end_rises before after write_failed lines e = lines_rise (length before.log_faults) (length before.input) 0 [] (raw_lines before.input) lines stopped e.0
 end_rises before after out_of_memory lines e = lines_rise (length before.log_faults) (length before.input) 0 [] (raw_lines before.input) lines stopped e
-
--- ---- an index that was opened has an entry
-
-ok_apart : (e : Unread) → ◌≡◌ {A = Result ⊤ Unread} (Err e) (Ok tt) → ⊥
-ok_apart e same = cc
-
-some_by : (n : ℕ) → (n == 0) ≡ false → 0 < n
-some_by zero e = cc
-some_by (suc n) e = omega arith
-
-loaded_by : (b c : Bool) (second : Call) (count : ℕ) (core : Core) → (load_by b c second count core).answer ≡ Ok tt → 0 < length (load_by b c second count core).core.history
-loaded_by true c second count core ok = absurd (ok_apart (not_read no_memory) ok)
-loaded_by false true second count core ok = absurd (ok_apart (not_read (store_failed count (begun second core))) ok)
-loaded_by false false second count core ok =
-    by (length (read_journal core).history == 0) refl ok
-  where
-    by : (b : Bool) → (length (read_journal core).history == 0) ≡ b → (unless_empty b (begun second (read_journal core))).answer ≡ Ok tt → 0 < length (unless_empty b (begun second (read_journal core))).core.history
-    by true e k = absurd (ok_apart calls.no_index k)
-    by false e k = let l = some_by (length (read_journal core).history) e in let same = ap (λ (es : List Entry). length es) (begun_still second (read_journal core)).history in omega (arith, l, same)
-
-loaded_some : (fate : Fate) (core : Core) → (loaded fate core).answer ≡ Ok tt → 0 < length (loaded fate core).core.history
-loaded_some fate core ok =
-    loaded_by (fate.first.short || fate.second.short) (may_fail fate.first core.store_faults || may_fail fate.second (begun fate.first core).store_faults) fate.second core.store_faults (begun fate.first core) ok
 
 -- ---- a node that was opened
 

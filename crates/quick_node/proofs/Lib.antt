@@ -39,7 +39,7 @@ mod Gathered
 mod Lateness
 mod Expiring
 mod Timing
-mod Fronts
+mod Prefixes
 mod WorkerLines
 mod Beginning
 mod MergeCalls

@@ -62,7 +62,7 @@ use Rattle.upkeep_run.specs.Steps.{rows_in}
 use Rattle.upkeep_run.specs.declared.work.Aim.TheVariants.{Merging}
 use Rattle.quick_node.specs.Replaces.{IsCrowded, IsHindered, IsRefused, chosen_by}
 use Rattle.quick_node.proofs.Files.{create_still}
-use Rattle.quick_node.proofs.Fronts.{last_at, longer}
+use Rattle.quick_node.proofs.Prefixes.{last_at, longer}
 
 -- ---- an entry
 

@@ -34,7 +34,7 @@ use Rattle.quick_node.specs.Serve.{IsPrefixOf, Before, After, End, HasEnd, IsFre
 use Rattle.quick_node.proofs.Beginning.{RiseFrom, end_rises, lives_say, starts}
 use Rattle.quick_node.proofs.Clocks.{turn_ticks}
 use Rattle.quick_node.proofs.Files.{IsTimed, appended_few, asked_and_looked_one}
-use Rattle.quick_node.proofs.Fronts.{crowded_on, front_legal, hindered_on, longer, refused_on, replacing_on, same_front, staged_on, staging_on}
+use Rattle.quick_node.proofs.Prefixes.{crowded_on, front_legal, hindered_on, longer, refused_on, replacing_on, same_front, staged_on, staging_on}
 use Rattle.quick_node.proofs.MergeCalls.{Appends, Picks, appended_says, is_crowded, is_hindered, is_refused, made_stands, picks, picks_none, stages_now}
 use Rattle.quick_node.proofs.Searching.{prefix_on}
 use Rattle.quick_node.proofs.Timing.{Rises, asked_late, turn_timed}
