@@ -1,5 +1,6 @@
 pub mod Feeding
 pub mod Written
+pub mod Opened
 mod Searching
 pub mod Living
 pub mod InOneWay

@@ -53,6 +53,7 @@ use Rattle.quick_node.proofs.Files.{IsTimed, appended_few, asked_and_looked_one,
 use Rattle.quick_node.proofs.Living.{opens_moves}
 use Rattle.quick_node.proofs.MergeCalls.{Appends, Picks, appended_says, is_crowded, is_hindered, is_refused, picks, picks_none}
 use Rattle.quick_node.proofs.Names.{moments_go_on}
+use Rattle.quick_node.proofs.Opened.{loaded_some}
 use Rattle.quick_node.proofs.Searching.{prefix_on}
 use Rattle.quick_node.proofs.Timing.{Rises, asked_late, turn_timed}
 use Rattle.quick_node.proofs.Working.{appended_came}
@@ -602,29 +603,6 @@ end_rises before after (opening_failed low high) lines e = none_rise lines e
 end_rises before after read_failed lines e = lines_rise (length before.log_faults) (length before.input) 0 [] (raw_lines before.input) lines stopped e.0
 end_rises before after write_failed lines e = lines_rise (length before.log_faults) (length before.input) 0 [] (raw_lines before.input) lines stopped e.0
 end_rises before after out_of_memory lines e = lines_rise (length before.log_faults) (length before.input) 0 [] (raw_lines before.input) lines stopped e
-
--- ---- an index that was opened has an entry
-
-ok_apart : (e : Unread) → ◌≡◌ {A = Result ⊤ Unread} (Err e) (Ok tt) → ⊥
-ok_apart e same = cc
-
-some_by : (n : ℕ) → (n == 0) ≡ false → 0 < n
-some_by zero e = cc
-some_by (suc n) e = omega arith
-
-loaded_by : (b c : Bool) (second : Call) (count : ℕ) (core : Core) → (load_by b c second count core).answer ≡ Ok tt → 0 < length (load_by b c second count core).core.history
-loaded_by true c second count core ok = absurd (ok_apart (not_read no_memory) ok)
-loaded_by false true second count core ok = absurd (ok_apart (not_read (store_failed count (begun second core))) ok)
-loaded_by false false second count core ok =
-    by (length (read_journal core).history == 0) refl ok
-  where
-    by : (b : Bool) → (length (read_journal core).history == 0) ≡ b → (unless_empty b (begun second (read_journal core))).answer ≡ Ok tt → 0 < length (unless_empty b (begun second (read_journal core))).core.history
-    by true e k = absurd (ok_apart calls.no_index k)
-    by false e k = let l = some_by (length (read_journal core).history) e in let same = ap (λ (es : List Entry). length es) (begun_still second (read_journal core)).history in omega (arith, l, same)
-
-loaded_some : (fate : Fate) (core : Core) → (loaded fate core).answer ≡ Ok tt → 0 < length (loaded fate core).core.history
-loaded_some fate core ok =
-    loaded_by (fate.first.short || fate.second.short) (may_fail fate.first core.store_faults || may_fail fate.second (begun fate.first core).store_faults) fate.second core.store_faults (begun fate.first core) ok
 
 -- ---- lines, and a call
 
