@@ -335,8 +335,8 @@ pub record Drives (history : List Entry) (before : Before) (after : After) (stat
   pub configured : (config : IndexConfig) → configuration history ≡ Some config → (revision : ℕ) → length history ≤ revision → configuration (take revision exit) ≡ Some config
   -- each reply with hits is right, whatever failed
   pub searches : AnswersFrom exit before.log (length history) [] lines outcomes
-  -- each reply that a delete was done names the task that its line added to the journal, exactly what its client asked to delete; and no reply is over a
-  -- revision before its client's front, so a client's searches see its deletes
+  -- each reply that a delete was done names the task that its line added to the journal, of exactly what its client asked to delete; and no refusal is
+  -- over a revision before its client's front, so a client's later searches are over one that has its tasks
   pub deletes : DeletesFrom exit (length history) [] lines outcomes
   -- each fault of the store that a line tells has its count before and behind, of which the second rose: these lie one behind
   -- another between the counts at entry and at exit
