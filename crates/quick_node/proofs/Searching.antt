@@ -169,7 +169,7 @@ record Went (exit : List Entry) (log : Log) (least from : ℕ) (knowns : List Kn
   deletes : Deletes exit from (length core.history) knowns (StepClient name) (client_said name s)
 
 -- the first known is found under its name
-known_first : (name : List ℕ) (known : Known) (knowns : List Known) → known.name ≡ name → known_of name (known ∷ knowns) ≡ known
+pub known_first : (name : List ℕ) (known : Known) (knowns : List Known) → known.name ≡ name → known_of name (known ∷ knowns) ≡ known
 known_first name known knowns e = rw (e, same-refl name)
 
 -- an answer is no delete

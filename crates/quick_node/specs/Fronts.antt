@@ -1,5 +1,5 @@
 -- What is known of a client from the lines and their outcomes.
-use Rattle.std.specs.Prelude.{ℕ, List, [], ◌∷◌, take, if◌then◌else◌, bytes_eq}
+use Rattle.std.specs.Prelude.{◌≡◌, ℕ, ◌≤◌, List, [], ◌∷◌, take, if◌then◌else◌, bytes_eq}
 use Rattle.index_config.specs.declared.config.IndexConfig.{IndexConfig}
 use Rattle.meta_journal.specs.declared.entry.Entry.{Entry}
 use Rattle.index_world.specs.Configuration.{configuration, config_or}
@@ -25,3 +25,12 @@ after_outcome knowns line outcome = knowns
 -- the configuration that a journal names at a revision
 abbrev pub config_then : ℕ → List Entry → IndexConfig
 config_then revision history = config_or (configuration (take revision history))
+
+-- a reply to this client is over this revision or a later one
+abbrev pub IsOnFrom : (name : List ℕ) (revision : ℕ) → Line → Outcome → Type 0
+IsOnFrom name revision (StepClient who) (client_said other (Replied reply)) = who ≡ name → revision ≤ reply.revision
+IsOnFrom name revision line outcome = Unit {0}
+
+abbrev pub GoesOnFrom : (name : List ℕ) (revision : ℕ) → List Line → List Outcome → Type 0
+GoesOnFrom name revision (line ∷ lines) (outcome ∷ outcomes) = IsOnFrom name revision line outcome × GoesOnFrom name revision lines outcomes
+GoesOnFrom name revision lines outcomes = Unit {0}

@@ -12,9 +12,12 @@ ghost use Rattle.object_store.specs.Store.{State, with_object};
 ghost use Rattle.source_log.specs.Log.{Log, IsLog};
 ghost use Rattle.index_world.specs.Index.{IsIndexOf};
 ghost use Rattle.index_world.specs.Opened.{ObjectsFrom};
-ghost use Rattle.node_run.specs.Node.{Node, Line, Outcome};
+ghost use Rattle.root_search.specs.declared.outcome.SearchStep.TheVariants.{Replied};
+ghost use Rattle.search_api.specs.declared.reply.Reply.{Reply};
+ghost use Rattle.node_run.specs.Node.{Node, Line, StepClient, Outcome, client_said};
 ghost use Rattle.node_run.specs.Turns.{Turn, turns};
 ghost use Rattle.quick_node.specs.Deletes.{DeletesFrom};
+ghost use Rattle.quick_node.specs.Fronts.{GoesOnFrom, Known};
 ghost use Rattle.quick_node.specs.Once.{HoldsOnce, CoversAt, AreLeft};
 ghost use Rattle.quick_node.specs.Opening.{Outside, EndsBy, DriveFinds, ReportFinds, TellsFound};
 ghost use Rattle.quick_node.specs.Reading.{Ending, stopped, Reads};
@@ -50,6 +53,13 @@ pub fn replies_are_right()
         (end : End) (lines : List Line) (outcomes : List Outcome) (last : Node) → Lives before end fresh lines outcomes last →
         IsPrefixOf last.core.history exit →
         IsPrefixOf history exit × AnswersFrom exit before.log (length history) [] lines outcomes × DeletesFrom exit (length history) [] lines outcomes }
+{}
+
+/// Behind a reply to a client, also to a delete, each later reply to it is over that revision or a later one.
+pub fn a_client_goes_on_from_its_replies()
+    ensures { (exit : List Entry) (log : Log) (least from : ℕ) (knowns : List Known) (name other : List ℕ) (reply : Reply) (lines : List Line) (outcomes : List Outcome) →
+        AnswersFrom exit log least knowns (StepClient name ∷ lines) (client_said other (Replied reply) ∷ outcomes) →
+        DeletesFrom exit from knowns (StepClient name ∷ lines) (client_said other (Replied reply) ∷ outcomes) → GoesOnFrom name reply.revision lines outcomes }
 {}
 
 /// An opened node answers one line more.
