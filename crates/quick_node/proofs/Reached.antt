@@ -81,10 +81,10 @@ before_change P n f (row ∷ list) back all = by (row.number == n) (λ more. bef
 task_before : (kept : State) (config : IndexConfig) (log : Log) (h : History) (moment opstamp : ℕ) (text : List ℕ) (fields : List (List ℕ)) (times : TimeRange) → Legal reads h → Comes reads h moment (Task opstamp text fields times) →
     AreSound kept config log (h ▸ record { moment = moment; act = Task opstamp text fields times }) → AreSound kept config log h
 task_before kept config log h moment opstamp text fields times legal may all =
-    AllOf-weaker (λ row. (contents config (tasks ++ task ∷ []) row log ≡ contents config tasks row log) × (row.state ≡ Published → IsRowSound kept config (tasks ++ task ∷ []) log row))
-    (λ row. row.state ≡ Published → IsRowSound kept config tasks log row) (rows h)
+    AllOf-weaker (λ (row : Row). (contents config (tasks ++ task ∷ []) row log ≡ contents config tasks row log) × (row.state ≡ Published → IsRowSound kept config (tasks ++ task ∷ []) log row))
+    (λ (row : Row). row.state ≡ Published → IsRowSound kept config tasks log row) (rows h)
     (λ row b e. sound_with kept config log (tasks ++ task ∷ []) tasks row row refl refl refl (sym b.0) (b.1 e))
-    (AllOf-both (λ row. contents config (tasks ++ task ∷ []) row log ≡ contents config tasks row log) (λ row. row.state ≡ Published → IsRowSound kept config (tasks ++ task ∷ []) log row) (rows h)
+    (AllOf-both (λ (row : Row). contents config (tasks ++ task ∷ []) row log ≡ contents config tasks row log) (λ (row : Row). row.state ≡ Published → IsRowSound kept config (tasks ++ task ∷ []) log row) (rows h)
     (contents_kept (meaning config) reads h task legal follows (accepted_records config log)) all)
   where
     task : DeleteTask
