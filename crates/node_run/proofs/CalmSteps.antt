@@ -9,18 +9,18 @@ use Rattle.source_checkpoint.specs.declared.ledger.Checkpoint.{Checkpoint}
 use Rattle.source_log.specs.Log.{Log, records_of}
 use Rattle.index_world.specs.Calls.{Fate, Call, Trouble, no_memory, Unmade, troubled, not_read, Gives, risen, may_fail, begun, looked, asked, file_made, asked_and_looked, fetched, with_standing, reborn, read_journal, unless_empty, load_by, loaded, calm_call, calm_fate}
 use Rattle.index_world.specs.Core.{Core, last_count}
-use Rattle.index_world.specs.Gate.{stage_call, publish_call, stage_act}
+use Rattle.index_world.specs.Gate.{stage_call, publish_call, stage_act, task_act, task_call}
 use Rattle.index_world.specs.SplitFile.{file_of}
 use Rattle.indexing_run.specs.Outcomes as said
 use Rattle.indexing_run.specs.Places.{Batch, Held, Place, idle, reading, staged, uploaded, Indexer}
 use Rattle.indexing_run.specs.Steps.{LogCall, Stepped, stepped, log_may_fail, log_called, checkpoints_by, checkpoints_given, take_checkpoints, idle_by, step_idle, read_by, read_given, read_asked, step_read, stage_given, step_stage, batch_facts, upload_given, step_upload, publish_given, step_publish, step_batch, step_place, step_indexer}
 use Rattle.indexing_run.specs.Steps as indexing
-use Rattle.root_search.specs.Requests.{asked_of}
-use Rattle.root_search.specs.Steps.{Request, no_request, opened, planned, Plan, Client, Searched, plan_by, plan_given, fetch_by, fetch_given, fetched_each, config_in, next_step, step_request, step_client}
+use Rattle.root_search.specs.Requests.{ask_of, asked_of}
+use Rattle.root_search.specs.Steps.{Request, no_request, opened, planned, Plan, Client, Searched, plan_given, delete_given, opened_by, fetch_by, fetch_given, fetched_each, config_in, next_step, step_request, step_client}
 use Rattle.root_search.specs.Steps as searching
-use Rattle.search_api.specs.Resolved.{Search}
+use Rattle.root_search.proofs.Steps.{delete_core, delete_short, plan_short}
+use Rattle.search_api.specs.Resolved.{Asked, IsDelete, IsSearch, Search}
 use Rattle.search_api.specs.declared.unanswered.Unanswered.{Unanswered}
-use Rattle.search_api.specs.declared.unanswered.Unanswered.TheVariants as reasons
 use Rattle.node_run.specs.Calm.{IsStill}
 use Rattle.node_run.specs.Turns.{calm, indexing_luck, searching_luck}
 use Rattle.node_run.proofs.Moving.{stage_same, upload_same, publish_same, given_same, plan_same, fetch_same}
@@ -236,15 +236,13 @@ SearchCalms step calm_step = (step.outcome ≡ None) ⊎ (step ≡ calm_step)
 abbrev pub calm_searching : searching.Luck
 calm_searching = searching_luck calm
 
-plan_none : (asked : Result Search Unanswered) (client : Client) (core : Core) → (plan_by (Err no_memory) asked client core).outcome ≡ None
-plan_none (Ok search) client core = refl
-plan_none (Err (reasons.Refused refusal)) client core = refl
-plan_none (Err (reasons.Memory e)) client core = refl
+plan_calms : (asked : Result Search Unanswered) (client : Client) (g g' : Gives Trouble ⊤) → Calms no_memory g g' → SearchCalms (plan_given asked client g) (plan_given asked client g')
+plan_calms asked client g g' (inl e) = inl (plan_short g.answer asked client g.core e)
+plan_calms asked client g g' (inr e) = inr (ap (plan_given asked client) e)
 
-plan_calms : (text : List ℕ) (client : Client) (g g' : Gives Trouble ⊤) → Calms no_memory g g' → SearchCalms (plan_given text client g) (plan_given text client g')
-plan_calms text client g g' (inl e) =
-    let asked = asked_of (config_in g.core) text in inl (ap (λ r. (plan_by r asked client g.core).outcome) e ∙ plan_none asked client g.core)
-plan_calms text client g g' (inr e) = inr (ap (plan_given text client) e)
+delete_calms : (client : Client) (g g' : Gives Unmade ⊤) → Calms (troubled no_memory) g g' → SearchCalms (delete_given client g) (delete_given client g')
+delete_calms client g g' (inl e) = inl (delete_short g.answer client g.core e)
+delete_calms client g g' (inr e) = inr (ap (delete_given client) e)
 
 fetch_calms : (plan : Plan) (number : ℕ) (more : List ℕ) (client : Client) (g g' : Gives Trouble ⊤) → Calms no_memory g g' →
     SearchCalms (fetch_given plan number more client g) (fetch_given plan number more client g')
@@ -262,12 +260,23 @@ module _ (luck : searching.Luck) (log : Log) (client : Client) (core : Core) (s 
       fetch_calms plan number more client given (fetched plan.grace calm_fate core)
       (each_calms plan.grace luck.more luck.world core s (handed core given.core _ (fetch_same given.answer plan number more client given.core) same))
 
+  given_plan_calms : (asked : Result Search Unanswered) → SearchIs (plan_given asked client (asked_and_looked luck.world core)) (plan_given asked client (asked_and_looked calm_fate core))
+  given_plan_calms asked same =
+      let given = asked_and_looked luck.world core in
+      plan_calms asked client given (asked_and_looked calm_fate core)
+      (asked_and_looked_calms luck.world core s (handed core given.core _ (plan_same given.answer asked client given.core) same))
+
+  opened_calms : (asked : Result Asked Unanswered) → SearchIs (opened_by asked luck.world client core) (opened_by asked calm_fate client core)
+  opened_calms (Ok (IsSearch search)) same = given_plan_calms (Ok search) same
+  opened_calms (Ok (IsDelete deletion)) same =
+      let given = task_call (ask_of deletion) luck.world core in
+      delete_calms client given (task_call (ask_of deletion) calm_fate core)
+      (appended_calms luck.world (task_act (ask_of deletion)) core s (handed core given.core _ (delete_core given.answer client given.core) same))
+  opened_calms (Err reason) same = given_plan_calms (Err reason) same
+
   request_calms : (request : Request) → SearchIs (step_request request luck log client core) (step_request request calm_searching log client core)
   request_calms no_request same = inr refl
-  request_calms (opened text) same =
-      let given = asked_and_looked luck.world core in
-      plan_calms text client given (asked_and_looked calm_fate core)
-      (asked_and_looked_calms luck.world core s (handed core given.core _ (plan_same given.answer (asked_of (config_in given.core) text) client given.core) same))
+  request_calms (opened text) same = opened_calms (asked_of (config_in core) text) same
   request_calms (planned plan) same = next_calms plan plan.unfetched same
 
   search_short_calms : (b : Bool) (x y : Searched) → SearchIs x y → SearchIs (searching.or_short b client x) y

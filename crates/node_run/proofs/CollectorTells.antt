@@ -5,7 +5,7 @@ use Rattle.meta_journal.specs.Places.{split_key}
 use Rattle.meta_journal.specs.declared.entry.Entry.{Entry}
 use Rattle.meta_store.specs.declared.refusal.Refusal.{Refusal}
 use Rattle.split_states.specs.declared.rows.Row.{Row}
-use Rattle.index_world.specs.Calls.{Call, is_at_once, Fate, Gives, Made, made, exists, failed, Trouble, faulted, no_memory, store_fault, is_foreign, is_full, is_expired, Unmade, refused, troubled, and_then, asked_clock, asking, begun, create_at_end, deleted_by, entry_of, file_deleted, file_got, get_at_end, got_file, last_create, may_append, may_fail, or_short, settle_with, settled, troubled_by}
+use Rattle.index_world.specs.Calls.{Call, is_at_once, Fate, Gives, Made, made, exists, failed, Trouble, faulted, no_memory, store_fault, is_foreign, is_full, is_expired, Unmade, refused, troubled, and_then, asked_clock, asking, begun, create_at_end, deleted_by, entry_of, file_deleted, file_got, get_at_end, last_create, may_append, may_fail, or_short, settle_with, settled, troubled_by}
 use Rattle.index_world.specs.Calls as calls
 use Rattle.index_world.specs.Collecting.{Offer, adopted_offer, answered_by, appended_if, doom_call, doom_next, doomed_by, first_offer, is_swept, last_offer, list_call, mark_stale_call, next_doomed, nothing, offer_unless, remove_call, removal_offer, stale_offer, sweep_call, sweep_if, transact_if}
 use Rattle.index_world.specs.Core.{Core}

@@ -13,7 +13,7 @@ use Rattle.index_world.specs.SplitFile.{file_of, facts_of}
 use Rattle.split_bundle.specs.declared.placed.Placed.{Placed}
 use Rattle.node_run.proofs.OnLiterals.{path_on_literals}
 use Rattle.node_run.proofs.Rows.{a, ask_all, calm_lines, fails_for_good, lines_said, log_pairs, logs_index, new_index, new_node, with_luck}
-use Rattle.node_run.specs.Node.{Node, Line, At, RestartNode, StepMerger, StepDeleter, RestartDeleter}
+use Rattle.node_run.specs.Node.{Node, Line, At, RestartNode, Open, StepClient, StepMerger, StepDeleter, RestartDeleter}
 use Rattle.node_run.specs.Turns.{opened_node, turns, turns_with}
 
 -- ---- a published split of three records, and a task behind it
@@ -83,6 +83,24 @@ pub deleter_is_down : lines_said (turns_with (new_node log_levels (0 ∷ [])) (w
     ≡ codes "node storefault 0 1" ∷ codes "deleter down" ∷ codes "deleter restarted" ∷ codes "node restarted 1" ∷ codes "deleter nothing" ∷ []
 unfolding path_on_literals
 deleter_is_down = refl
+
+-- ---- behind the deletes of clients
+
+abbrev pub b : Line
+b = StepClient (codes "b")
+
+abbrev pub delete_errors : List ℕ
+delete_errors = codes "{\"delete\":{\"query\":\"level:err\"}}"
+
+-- each delete is a task of its own, and both are applied in one go
+pub clients_delete : lines_said (turns (node_of published)
+    (At 1000 ∷ Open (codes "a") delete_errors ∷ Open (codes "b") delete_errors ∷ a ∷ b ∷ d ∷ d ∷ d ∷ d ∷ d ∷ d ∷ ask_all ∷ a ∷ a ∷ a ∷ []))
+    ≡ codes "at 1000" ∷ codes "a opened" ∷ codes "b opened" ∷ codes "{\"client\":\"a\",\"opstamp\":1,\"revision\":4}" ∷ codes "{\"client\":\"b\",\"opstamp\":2,\"revision\":5}"
+    ∷ codes "deleter planned 1" ∷ codes "deleter fetched 1" ∷ codes "deleter staged 2" ∷ codes "deleter uploaded 2" ∷ codes "deleter replaced 2" ∷ codes "deleter nothing"
+    ∷ codes "a opened" ∷ codes "a planned 7 1" ∷ codes "a fetched 2"
+    ∷ codes "{\"aggregations\":{},\"client\":\"a\",\"hits\":[{\"body\":\"red hen\",\"level\":\"info\"}],\"num_hits\":1,\"revision\":7}" ∷ []
+unfolding path_on_literals utf8_lossy utf8_valid_len
+clients_delete = refl
 
 -- ---- beside a merger
 

@@ -12,7 +12,7 @@ use Rattle.index_world.specs.Gate.{stage_call, publish_call}
 use Rattle.index_world.specs.SplitFile.{file_of}
 use Rattle.indexing_run.specs.Outcomes as said
 use Rattle.indexing_run.specs.Places.{Batch, Held, Place, idle, reading, staged, uploaded, Indexer}
-use Rattle.indexing_run.specs.Steps.{Stepped, stepped, log_may_fail, log_called, take_checkpoints, idle_by, read_by, read_given, step_read, stage_by, step_stage, batch_facts, upload_by, step_upload, publish_by, step_publish, step_batch, step_place, step_indexer}
+use Rattle.indexing_run.specs.Steps.{Stepped, stepped, log_may_fail, log_called, take_checkpoints, idle_by, read_by, read_given, step_read, stage_by, step_stage, batch_facts, upload_by, publish_by, step_batch, step_place, step_indexer}
 use Rattle.indexing_run.specs.Steps as indexing
 use Rattle.root_search.specs.Steps.{Request, no_request, opened, planned, Client}
 use Rattle.upkeep_run.specs.Places.{Place as Worker}

@@ -5,18 +5,19 @@ use Rattle.meta_journal.specs.declared.entry.Act.TheVariants.{Publish}
 use Rattle.meta_journal.specs.Places.{split_key}
 use Rattle.source_checkpoint.specs.declared.ledger.Checkpoint.{Checkpoint}
 use Rattle.source_log.specs.Log.{Log}
-use Rattle.index_world.specs.Calls.{Fate, Call, Trouble, faulted, no_memory, Unmade, Unread, not_read, Gives, Made, made, exists, failed, risen, may_fail, entry_lands, file_lands, land_at, all_landed, begun, tried, made_behind, made_at, create_at_end, taken_in, or_short, unless_short, asked_clock, asking, and_then_by, taken_unless, got_at, get_at_end, settle_made, settle_with, settled, fence_of, entry_of, may_append, last_made, last_unless, last_create, troubled_by, as_unmade, adopted_made, first_unless, transact, appended, looked, asked_and_looked, asked, file_by, file_made, got_file, file_got, Grace, unless_over, fetched, with_standing, read_journal, unless_empty, load_by, loaded}
+use Rattle.index_world.specs.Calls.{Trouble, faulted, no_memory, Unmade, Unread, not_read, or_short, asked_and_looked, asked}
 use Rattle.index_world.specs.Calls as calls
 use Rattle.index_world.specs.Core.{Core}
-use Rattle.index_world.specs.Gate.{stage_act}
+use Rattle.index_world.specs.Gate.{stage_act, task_act, task_call}
 use Rattle.index_world.specs.SplitFile.{file_of}
 use Rattle.indexing_run.specs.Places.{Batch, Held, Place, idle, reading, staged, uploaded, Indexer}
 use Rattle.indexing_run.specs.Steps.{Stepped, log_may_fail, log_called, checkpoints_by, take_checkpoints, idle_by, read_by, read_given, step_read, stage_by, step_stage, batch_facts, upload_by, step_upload, publish_by, step_publish, step_batch, step_place, step_indexer}
 use Rattle.indexing_run.specs.Steps as indexing
-use Rattle.root_search.specs.Requests.{asked_of}
-use Rattle.root_search.specs.Steps.{Request, no_request, opened, planned, Plan, Client, plan_by, fetch_by, fetched_each, unless_fault, config_in, next_step, step_request, step_client}
+use Rattle.root_search.specs.Requests.{ask_of, asked_of}
+use Rattle.root_search.specs.Steps.{Request, no_request, opened, planned, Plan, Client, plan_by, plan_given, opened_by, fetch_by, config_in, next_step, step_request, step_client}
 use Rattle.root_search.specs.Steps as searching
-use Rattle.search_api.specs.Resolved.{Search}
+use Rattle.root_search.proofs.Steps.{delete_core}
+use Rattle.search_api.specs.Resolved.{Asked, IsDelete, IsSearch, Search}
 use Rattle.search_api.specs.declared.reply.Refusal.{Refusal}
 use Rattle.search_api.specs.declared.unanswered.Unanswered.{Unanswered}
 use Rattle.search_api.specs.declared.unanswered.Unanswered.TheVariants as reasons
@@ -142,11 +143,21 @@ module _ (luck : searching.Luck) (log : Log) (client : Client) (core : Core) whe
   next_moves plan (number ∷ more) =
       moves_on (each_moves plan.grace luck.more luck.world core) (same (fetch_same _ plan number more client _))
 
+  plan_moves : (asked : Result Search Unanswered) → Moves core (plan_given asked client (asked_and_looked luck.world core)).core
+  plan_moves asked =
+      let given = asked_and_looked luck.world core in
+      moves_on (asked_and_looked_moves luck.world core) (same (plan_same given.answer asked client given.core))
+
+  opened_moves : (asked : Result Asked Unanswered) → Moves core (opened_by asked luck.world client core).core
+  opened_moves (Ok (IsSearch search)) = plan_moves (Ok search)
+  opened_moves (Ok (IsDelete deletion)) =
+      let given = task_call (ask_of deletion) luck.world core in
+      moves_on (appended_moves luck.world (task_act (ask_of deletion)) core) (same (delete_core given.answer client given.core))
+  opened_moves (Err reason) = plan_moves (Err reason)
+
   request_moves : (request : Request) → Moves core (step_request request luck log client core).core
   request_moves no_request = stays refl
-  request_moves (opened text) =
-      let given = asked_and_looked luck.world core in
-      moves_on (asked_and_looked_moves luck.world core) (same (plan_same given.answer (asked_of (config_in given.core) text) client given.core))
+  request_moves (opened text) = opened_moves (asked_of (config_in core) text)
   request_moves (planned plan) = next_moves plan plan.unfetched
 
   pub client_moves : Moves core (step_client luck log client core).core

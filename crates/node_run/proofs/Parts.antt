@@ -8,11 +8,11 @@ use Rattle.std.specs.Result.{IsErrAnd}
 use Rattle.std.specs.declared.alloc.AllocError.{AllocError}
 use Rattle.source_log.specs.Log.{Log}
 use Rattle.index_world.specs.Loading.{IsUnread, IsLoaded}
-use Rattle.index_world.specs.Gate.{Says}
+use Rattle.index_world.specs.Gate.{Says, task_call}
 use Rattle.index_world.specs.declared.world_error.WorldError.{WorldError}
 use Rattle.index_world.specs.Calls as calls
-use Rattle.index_world.specs.Calls.{Fate, Fault, Trouble, faulted, no_memory, not_read, Unread, Gives, gives, loaded, calm_fate, asked_and_looked}
-use Rattle.root_search.specs.Requests.{asked_of}
+use Rattle.index_world.specs.Calls.{Fate, Fault, Trouble, faulted, no_memory, not_read, Unmade, Unread, gives, loaded, asked_and_looked}
+use Rattle.root_search.specs.Requests.{ask_of, asked_of}
 use Rattle.index_world.specs.Core.{Core, IsOther, journal_of, KeepsBut}
 use Rattle.index_world.proofs.InCore.{shown_keeps, moment_goes}
 use Rattle.index_world.specs.Index.{has_staged}
@@ -37,7 +37,7 @@ use Rattle.root_search.specs.declared.searcher.Request.{Request as KeptRequest}
 use Rattle.root_search.specs.declared.searcher.Request.TheVariants as requests
 use Rattle.root_search.specs.Steps.{Client, without_request}
 use Rattle.root_search.specs.Steps as searching
-use Rattle.search_api.specs.Resolved.{Search}
+use Rattle.search_api.specs.Resolved.{Asked, IsDelete, IsSearch, Search}
 use Rattle.search_api.specs.declared.reply.Refusal.{Refusal}
 use Rattle.search_api.specs.declared.unanswered.Unanswered.{Unanswered}
 use Rattle.search_api.specs.declared.unanswered.Unanswered.TheVariants as reasons
@@ -46,7 +46,6 @@ use Rattle.root_search.specs.declared.searcher.Searcher.{Searcher}
 use Rattle.split_collector.specs.Outcomes.{Outcome as CollectorOutcome}
 use Rattle.split_collector.specs.Standing as collects
 use Rattle.split_collector.specs.declared.outcome.CollectorOutcome.{CollectorOutcome as Collected}
-use Rattle.upkeep_run.specs.Places.{Place as Worker}
 use Rattle.upkeep_run.specs.Places as workers
 use Rattle.upkeep_run.specs.Standing as works
 use Rattle.upkeep_run.specs.declared.work.Aim.TheVariants.{Deleting, Merging}
@@ -382,6 +381,11 @@ searched_name luck log client core = short luck.short where
   plan (Err t) (Err (reasons.Refused refusal)) c = refused client.front refusal t c
   plan (Err t) (Err (reasons.Memory e)) c = refl
 
+  delete : (r : Result ⊤ Unmade) (c : Core) → (searching.delete_by r client c).client.name ≡ client.name
+  delete (Ok done) c = refl
+  delete (Err (calls.refused refusal)) c = refl
+  delete (Err (calls.troubled t)) c = troubled client.front t c
+
   fetch : (r : Result ⊤ Trouble) (plan : searching.Plan) (number : ℕ) (more : List ℕ) (c : Core) → (searching.fetch_by r plan number more client c).client.name ≡ client.name
   fetch (Ok done) plan number more c = refl
   fetch (Err t) plan number more c = troubled plan.revision t c
@@ -390,10 +394,14 @@ searched_name luck log client core = short luck.short where
   next p [] = refl
   next p (number ∷ more) = let given = searching.fetched_each p.grace luck.world luck.more core in fetch given.answer p number more given.core
 
+  opened : (asked : Result Asked Unanswered) → (searching.opened_by asked luck.world client core).client.name ≡ client.name
+  opened (Ok (IsSearch search)) = let given = asked_and_looked luck.world core in plan given.answer (Ok search) given.core
+  opened (Ok (IsDelete deletion)) = let given = task_call (ask_of deletion) luck.world core in delete given.answer given.core
+  opened (Err reason) = let given = asked_and_looked luck.world core in plan given.answer (Err reason) given.core
+
   request : (r : searching.Request) → (searching.step_request r luck log client core).client.name ≡ client.name
   request searching.no_request = refl
-  request (searching.opened text) =
-      let given = asked_and_looked luck.world core in plan given.answer (asked_of (searching.config_in given.core) text) given.core
+  request (searching.opened text) = opened (asked_of (searching.config_in core) text)
   request (searching.planned p) = next p p.unfetched
 
   short : (b : Bool) → (searching.or_short b client (searching.step_request client.request luck log client core)).client.name ≡ client.name

@@ -20,7 +20,7 @@ use Rattle.split_bundle.specs.declared.placed.Placed.{Placed}
 use Rattle.doc_tallies.specs.Picked.{docs_of}
 use Rattle.search_api.specs.Kinds.{◌>>=◌}
 use Rattle.search_api.specs.Requests.{request_of}
-use Rattle.search_api.specs.Resolved.{Search, Asked, IsSearch, IsDelete, known, has_text, text_number, text_numbers, searched, sort_of, narrow, counted_number, flat_of, flats_of, agg_of, aggs_of, is_fast, fast_sort, timed, query_or, query_in, unless_refused, checked, search_in, delete_in, resolved}
+use Rattle.search_api.specs.Resolved.{Search, known, has_text, text_number, text_numbers, searched, sort_of, narrow, counted_number, flat_of, flats_of, agg_of, aggs_of, is_fast, fast_sort, timed, query_or, query_in, unless_refused, checked, search_in, delete_in, resolved}
 use Rattle.search_api.specs.declared.reply.Refusal.{Refusal}
 use Rattle.search_api.specs.declared.reply.Refusal.TheVariants as refusals
 use Rattle.search_api.specs.declared.reply.Said.TheVariants as said
@@ -37,7 +37,7 @@ use Rattle.search_api.specs.declared.resolved.SortField.{SortField}
 use Rattle.search_api.specs.declared.unanswered.Unanswered.{Unanswered}
 use Rattle.search_api.specs.declared.unanswered.Unanswered.TheVariants.{Refused, Memory}
 use Rattle.root_search.specs.Answer.{answer, matching, printed, shown}
-use Rattle.root_search.specs.Requests.{asked_of, only_search, read_or}
+use Rattle.root_search.specs.Requests.{asked_of, read_or}
 use Rattle.node_run.specs.Telling.{IsOfText, RefusalMayTell, SaidMayTell}
 
 abbrev pub OfText : {A : Type 0} → Result A Unanswered → Type 0
@@ -48,6 +48,8 @@ OfText (Err (Memory e)) = Unit {0}
 pub text_may : (refusal : Refusal) → IsOfText refusal → RefusalMayTell refusal
 text_may (refusals.StoreFault before after) h = tt
 text_may (refusals.Expired planned_at now) h = absurd h
+text_may (refusals.TooManyTasks count) h = absurd h
+text_may refusals.Full h = absurd h
 text_may refusal h = h
 
 bind_of : {A B : Type 0} (r : Result A Unanswered) (k : A → Result B Unanswered) → OfText r → ((x : A) → OfText (k x)) → OfText (r >>= k)
@@ -170,14 +172,9 @@ read_of (Err (request_errors.TooManyHits wanted)) = tt
 read_of (Err (request_errors.MissingKey name)) = tt
 read_of (Err (request_errors.Memory e)) = tt
 
-only_of : (asked : Asked) → OfText (only_search asked)
-only_of (IsSearch search) = tt
-only_of (IsDelete deletion) = tt
-
 pub asked_of_text : (config : IndexConfig) (text : List ℕ) → OfText (asked_of config text)
 asked_of_text config text =
-    bind_of (read_or (request_of text) >>= resolved config.schema config.default_fields) only_search
-    (bind_of (read_or (request_of text)) (resolved config.schema config.default_fields) (read_of (request_of text)) (resolved_of config.schema config.default_fields)) only_of
+    bind_of (read_or (request_of text)) (resolved config.schema config.default_fields) (read_of (request_of text)) (resolved_of config.schema config.default_fields)
 
 -- ---- an answer
 

@@ -213,9 +213,9 @@ pub timeout_passes_an_empty_batch : lines_said (turns (new_node (record { partit
 unfolding path_on_literals
 timeout_passes_an_empty_batch = refl
 
--- requests that are refused: deletes aren't built, and a query that breaks off
-pub delete_refused : lines_said (turns (new_node [] (0 ∷ [])) (Open (codes "a") (codes "{\"delete\":{\"query\":\"fox\"}}") ∷ a ∷ []))
-    ≡ codes "a opened" ∷ codes "{\"client\":\"a\",\"error\":{\"kind\":\"UnknownKey\",\"name\":\"delete\"},\"revision\":1}" ∷ []
+-- requests that are refused: a delete and a search of which the query breaks off
+pub delete_refused : lines_said (turns (new_node [] (0 ∷ [])) (Open (codes "a") (codes "{\"delete\":{\"query\":\"size:[1 TO\"}}") ∷ a ∷ []))
+    ≡ codes "a opened" ∷ codes "{\"client\":\"a\",\"error\":{\"at\":10,\"kind\":\"Syntax\"},\"revision\":1}" ∷ []
 unfolding path_on_literals
 delete_refused = refl
 

@@ -9,13 +9,16 @@ use Rattle.source_checkpoint.specs.declared.ledger.Checkpoint.{Checkpoint}
 use Rattle.source_log.specs.Log.{Log}
 use Rattle.index_world.specs.Calls.{done_never, Unmade, begun, calm_call, calm_fate, made_behind, adopted_making, first_unless, transact, appended, entry_of, may_append, unless_short, and_then, settle_with, looked, asked, asked_clock, asked_and_looked, file_by, file_made, Grace, fetched, reborn, unless_empty, loaded}
 use Rattle.index_world.specs.Core.{Core, file_at}
-use Rattle.index_world.specs.Gate.{raise_call, replace_call, stage_call, publish_call, stage_act}
+use Rattle.index_world.specs.Gate.{raise_call, replace_call, stage_call, publish_call, stage_act, task_act, task_call}
 use Rattle.index_world.specs.SplitFile.{file_of}
 use Rattle.indexing_run.specs.Outcomes as said
 use Rattle.indexing_run.specs.Places.{Batch, Held, Place, idle, reading, staged, uploaded, Indexer}
 use Rattle.indexing_run.specs.Steps.{Stepped, stepped, log_may_fail, log_called, take_checkpoints, idle_by, step_read, step_stage, batch_facts, step_upload, step_publish, step_batch, step_place, step_indexer}
-use Rattle.root_search.specs.Requests.{asked_of}
-use Rattle.root_search.specs.Steps.{Request, no_request, opened, planned, Plan, Client, config_in, next_step, step_request, step_client}
+use Rattle.root_search.specs.Requests.{ask_of, asked_of}
+use Rattle.root_search.specs.Steps.{Request, no_request, opened, planned, Plan, Client, config_in, plan_given, opened_by, next_step, step_request, step_client}
+use Rattle.root_search.proofs.Steps.{delete_core}
+use Rattle.search_api.specs.Resolved.{Asked, IsDelete, IsSearch, Search}
+use Rattle.search_api.specs.declared.unanswered.Unanswered.{Unanswered}
 use Rattle.split_states.specs.declared.rows.Row.{Row}
 use Rattle.upkeep_run.specs.Places as workers
 use Rattle.upkeep_run.specs.Steps as working
@@ -146,11 +149,21 @@ module _ (log : Log) (client : Client) (core : Core) (s : IsStill core) where
       let given = fetched plan.grace calm_fate core in
       handed given.core _ (fetch_same given.answer plan number more client given.core) (fetched_still plan.grace core s)
 
+  plan_still : (asked : Result Search Unanswered) → IsStill (plan_given asked client (asked_and_looked calm_fate core)).core
+  plan_still asked =
+      let given = asked_and_looked calm_fate core in
+      handed given.core _ (plan_same given.answer asked client given.core) (looked_still (asked_clock core) (asked_still core s))
+
+  opened_still : (asked : Result Asked Unanswered) → IsStill (opened_by asked calm_fate client core).core
+  opened_still (Ok (IsSearch search)) = plan_still (Ok search)
+  opened_still (Ok (IsDelete deletion)) =
+      let given = task_call (ask_of deletion) calm_fate core in
+      handed given.core _ (delete_core given.answer client given.core) (appended_still (task_act (ask_of deletion)) core s)
+  opened_still (Err reason) = plan_still (Err reason)
+
   request_still : (request : Request) → IsStill (step_request request calm_searching log client core).core
   request_still no_request = s
-  request_still (opened text) =
-      let given = asked_and_looked calm_fate core in
-      handed given.core _ (plan_same given.answer (asked_of (config_in given.core) text) client given.core) (looked_still (asked_clock core) (asked_still core s))
+  request_still (opened text) = opened_still (asked_of (config_in core) text)
   request_still (planned plan) = next_still plan plan.unfetched
 
   client_still : IsStill (step_client calm_searching log client core).core

@@ -10,10 +10,10 @@ use Rattle.source_checkpoint.specs.declared.delta.StaleDelta.{StaleDelta}
 use Rattle.source_checkpoint.specs.declared.delta.StaleDelta.TheVariants as deltas
 use Rattle.source_checkpoint.specs.declared.ledger.Checkpoint.{Checkpoint}
 use Rattle.source_log.specs.Log.{Log}
-use Rattle.index_world.specs.Calls.{Fault, store_fault, is_foreign, is_full, is_expired, Trouble, faulted, no_memory, Unmade, refused, troubled, Unread, not_read, begun, or_short, appended, looked, asked_and_looked, asked, file_made, loaded}
+use Rattle.index_world.specs.Calls.{store_fault, is_foreign, is_full, is_expired, Trouble, faulted, no_memory, Unmade, refused, troubled, Unread, not_read, begun, or_short, appended, looked, asked_and_looked, asked, file_made, loaded}
 use Rattle.index_world.specs.Calls as calls
 use Rattle.index_world.specs.Core.{Core}
-use Rattle.index_world.specs.Gate.{stage_act}
+use Rattle.index_world.specs.Gate.{stage_act, task_act, task_call}
 use Rattle.index_world.specs.Seen.{visible_at}
 use Rattle.index_world.specs.SplitFile.{file_of}
 use Rattle.index_world.specs.World.{Keeping, WorldStands}
@@ -26,11 +26,11 @@ use Rattle.indexing_run.specs.Steps as indexing
 use Rattle.indexing_run.specs.declared.indexer.Indexer.{Indexer as Reader}
 use Rattle.indexing_run.specs.declared.indexer.Place.{Place as HeldPlace}
 use Rattle.indexing_run.specs.declared.indexer.Place.TheVariants as places
-use Rattle.root_search.specs.Requests.{asked_of}
-use Rattle.root_search.specs.Steps.{Request, no_request, opened, planned, Plan, Client, config_at, config_in, plan_by, fetch_by, fetched_each, next_step, step_request, step_client}
+use Rattle.root_search.specs.Requests.{ask_of, asked_of}
+use Rattle.root_search.specs.Steps.{Request, no_request, opened, planned, Plan, Client, config_at, config_in, state_refusal, plan_by, plan_given, delete_by, opened_by, fetch_by, fetched_each, next_step, step_request, step_client}
 use Rattle.root_search.specs.Steps as searching
 use Rattle.root_search.specs.declared.outcome.SearchStep.{SearchStep}
-use Rattle.search_api.specs.Resolved.{Search}
+use Rattle.search_api.specs.Resolved.{Asked, IsDelete, IsSearch, Search}
 use Rattle.search_api.specs.declared.reply.Refusal.{Refusal as Unfit}
 use Rattle.search_api.specs.declared.unanswered.Unanswered.{Unanswered}
 use Rattle.search_api.specs.declared.unanswered.Unanswered.TheVariants as reasons
@@ -42,7 +42,7 @@ use Rattle.upkeep_run.specs.declared.work.Aim.{Aim}
 use Rattle.upkeep_run.specs.declared.work.Aim.TheVariants.{Deleting, Merging}
 use Rattle.upkeep_run.specs.declared.work.Place.{Place as WorkerPlace}
 use Rattle.node_run.specs.Node.{Node, Line, At, Assign, StepIndexer, RestartIndexer, RestartClient, StepMerger, RestartMerger, StepDeleter, RestartDeleter, StepCollector, RestartCollector, RestartNode, Open, StepClient, Outcome}
-use Rattle.node_run.specs.Telling.{IndexerMayTell, IsOfText, SearchMayTell, LineMayTell}
+use Rattle.node_run.specs.Telling.{IndexerMayTell, IsOfText, RefusalMayTell, SearchMayTell, LineMayTell}
 use Rattle.node_run.specs.Turns.{Luck, Turned, indexer_or, indexer_at, indexing_luck, searching_luck, said_by_indexer, said_by_client, assign_at, indexer_turn_by, client_turn_by, client_named, working_luck, said_by_worker, worker_turn_by, with_deleter, with_merger, collecting_luck, collector_turn_by, said_by_collector, open_by, restart_by, full_turn, or_quiet, turn_by, Turn}
 use Rattle.node_run.proofs.Refusals.{OfText, asked_of_text, text_may, answer_may}
 use Rattle.node_run.proofs.CallTells.{AreLow, IsStoreTrouble, IsOwnTrouble, IfErr, appended_own, file_own, copied_own, asked_and_looked_own, asked_own, IsFetchTrouble, each_own, IsStoreUnread, load_own, IsFree, store_not_foreign}
@@ -168,11 +168,15 @@ abbrev SearchTells : Option SearchStep → Type 0
 SearchTells None = Unit {0}
 SearchTells (Some step) = SearchMayTell step
 
+own_tells : (revision : ℕ) (trouble : Trouble) (client : Client) (core : Core) → IsOwnTrouble (troubled trouble) → SearchTells (searching.trouble_replied revision trouble client core).outcome
+own_tells revision (faulted (store_fault before after)) client core h = tt
+own_tells revision (faulted (is_foreign key)) client core h = absurd h
+own_tells revision (faulted is_full) client core h = tt
+own_tells revision (faulted (is_expired planned_at now)) client core h = absurd h
+own_tells revision no_memory client core h = tt
+
 replied_tells : (revision : ℕ) (trouble : Trouble) (client : Client) (core : Core) → IsStoreTrouble trouble → SearchTells (searching.trouble_replied revision trouble client core).outcome
-replied_tells revision (faulted (store_fault before after)) client core h = tt
-replied_tells revision (faulted (is_foreign key)) client core h = absurd h
-replied_tells revision (faulted is_full) client core h = absurd h
-replied_tells revision (faulted (is_expired planned_at now)) client core h = absurd h
+replied_tells revision (faulted fault) client core h = own_tells revision (faulted fault) client core (store_not_foreign fault h)
 replied_tells revision no_memory client core h = tt
 
 too_late_tells : (revision : ℕ) (trouble : Trouble) (client : Client) (core : Core) → IsFetchTrouble trouble → SearchTells (searching.trouble_replied revision trouble client core).outcome
@@ -196,23 +200,53 @@ plan_tells (Err trouble) (Ok search) client core h a = replied_tells client.fron
 plan_tells (Err trouble) (Err (reasons.Refused refusal)) client core h a = refused_tells client.front refusal trouble client core a
 plan_tells (Err trouble) (Err (reasons.Memory e)) client core h a = tt
 
+-- why the state refuses the task of a delete
+state_may : (refusal : Refusal) → RefusalMayTell (state_refusal refusal)
+state_may (MomentBack given greatest) = tt
+state_may NotCreated = tt
+state_may AlreadyCreated = tt
+state_may (BadConfig error) = tt
+state_may (NotNext given next) = tt
+state_may (Delta fault) = tt
+state_may (State refusal) = tt
+state_may (BadTask error) = tt
+state_may (UptoAhead upto last) = tt
+state_may (TooManyTasks count) = tt
+state_may (TooManyRows count) = tt
+state_may (TooManySpans count) = tt
+
+delete_tells : (r : Result ⊤ Unmade) (client : Client) (core : Core) → IfErr IsOwnTrouble r → SearchTells (delete_by r client core).outcome
+delete_tells (Ok done) client core h = tt
+delete_tells (Err (refused refusal)) client core h = state_may refusal
+delete_tells (Err (troubled trouble)) client core h = own_tells client.front trouble client core h
+
 fetch_tells : (r : Result ⊤ Trouble) (plan : Plan) (number : ℕ) (more : List ℕ) (client : Client) (core : Core) → IfErr IsFetchTrouble r →
     SearchTells (fetch_by r plan number more client core).outcome
 fetch_tells (Ok done) plan number more client core h = tt
 fetch_tells (Err trouble) plan number more client core h = too_late_tells plan.revision trouble client core h
 
-module _ (luck : searching.Luck) (log : Log) (client : Client) (core : Core) where
+module _ (luck : searching.Luck) (log : Log) (client : Client) (core : Core) (low : AreLow (length core.history) core) where
   next_tells : (plan : Plan) (unfetched : List ℕ) → SearchTells (next_step luck log plan unfetched client core).outcome
   next_tells plan [] = answer_may (config_at plan.revision core).schema plan.search (visible_at plan.revision core.history log)
   next_tells plan (number ∷ more) =
       let given = fetched_each plan.grace luck.world luck.more core in
       fetch_tells given.answer plan number more client given.core (each_own plan.grace luck.more luck.world core)
 
+  given_plan_tells : (asked : Result Search Unanswered) → OfText asked → SearchTells (plan_given asked client (asked_and_looked luck.world core)).outcome
+  given_plan_tells asked a =
+      let given = asked_and_looked luck.world core in
+      plan_tells given.answer asked client given.core (asked_and_looked_own luck.world core) a
+
+  opened_tells : (asked : Result Asked Unanswered) → OfText asked → SearchTells (opened_by asked luck.world client core).outcome
+  opened_tells (Ok (IsSearch search)) a = given_plan_tells (Ok search) tt
+  opened_tells (Ok (IsDelete deletion)) a =
+      let given = task_call (ask_of deletion) luck.world core in
+      delete_tells given.answer client given.core (appended_own luck.world (task_act (ask_of deletion)) core low)
+  opened_tells (Err reason) a = given_plan_tells (Err reason) a
+
   request_tells : (request : Request) → SearchTells (step_request request luck log client core).outcome
   request_tells no_request = tt
-  request_tells (opened text) =
-      let given = asked_and_looked luck.world core in
-      plan_tells given.answer (asked_of (config_in given.core) text) client given.core (asked_and_looked_own luck.world core) (asked_of_text (config_in given.core) text)
+  request_tells (opened text) = opened_tells (asked_of (config_in core) text) (asked_of_text (config_in core) text)
   request_tells (planned plan) = next_tells plan plan.unfetched
 
   client_short : (b : Bool) (step : searching.Searched) → SearchTells step.outcome → SearchTells (searching.or_short b client step).outcome
@@ -277,7 +311,7 @@ module _ (luck : Luck) (node : Node) (own : IsOwn node) where
 
   client_turn_tells : (down : Bool) (name : List ℕ) → LineMayTell (client_turn_by down luck name node).said
   client_turn_tells true name = tt
-  client_turn_tells false name = client_line name _ (client_tells (searching_luck luck) node.log (client_named name node.clients) node.core)
+  client_turn_tells false name = client_line name _ (client_tells (searching_luck luck) node.log (client_named name node.clients) node.core own.lawful.low)
 
   worker_turn_tells : (down : Bool) (aim : Aim) (worker : Worker) (keep : Worker → Node → Node) → WorkerIsFree node.core worker → LineMayTell (worker_turn_by down aim worker keep luck node).said
   worker_turn_tells true aim worker keep free = tt

@@ -1,5 +1,6 @@
--- Which faults a node over a sound index tells: no key is foreign to it, only an entry of an indexer, of a worker or of the collector meets
--- a full journal, only one of an indexer or of a worker is refused, and only a search or a worker comes too late.
+-- Which faults a node over a sound index tells: no key is foreign to it, only an entry of an indexer, of a worker, of the collector or of a
+-- client's delete meets a full journal, only one of an indexer, of a worker or of a client's delete is refused, and only a search or a worker
+-- comes too late.
 use Rattle.std.specs.Prelude.{Option, Some, None}
 use Rattle.index_world.specs.Calls.{Fault, store_fault, is_foreign, is_full, is_expired}
 use Rattle.indexing_run.specs.Outcomes.{IndexerOutcome}
@@ -104,15 +105,17 @@ IsOfText (refusals.Foreign key) = ⊥
 IsOfText (refusals.TooManyTasks count) = ⊥
 IsOfText refusals.Full = ⊥
 
--- the store failed, a plan's files may be gone, or the text is refused
+-- the store failed, a plan's files may be gone, there is no room for the task of a delete, or the text is refused
 abbrev pub RefusalMayTell : Refusal → Type 0
 RefusalMayTell (refusals.StoreFault before after) = Unit {0}
 RefusalMayTell (refusals.Expired planned_at now) = Unit {0}
+RefusalMayTell (refusals.TooManyTasks count) = Unit {0}
+RefusalMayTell refusals.Full = Unit {0}
 RefusalMayTell refusal = IsOfText refusal
 
 abbrev pub SaidMayTell : Said → Type 0
 SaidMayTell (Found count hits aggregations) = Unit {0}
-SaidMayTell (Deleted opstamp) = ⊥
+SaidMayTell (Deleted opstamp) = Unit {0}
 SaidMayTell (Refused refusal) = RefusalMayTell refusal
 
 abbrev pub SearchMayTell : SearchStep → Type 0

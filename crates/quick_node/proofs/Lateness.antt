@@ -58,14 +58,14 @@ module _ (grace : Grace) where
 
 -- ---- calls that are never too late
 
-abbrev IsOnTime : Trouble → Type 0
+abbrev pub IsOnTime : Trouble → Type 0
 IsOnTime (faulted (store_fault before after)) = ⊤
 IsOnTime (faulted (is_foreign key)) = ⊤
 IsOnTime (faulted is_full) = ⊤
 IsOnTime (faulted (is_expired planned_at now)) = ⊥
 IsOnTime no_memory = ⊤
 
-abbrev MadeOnTime : Unmade → Type 0
+abbrev pub MadeOnTime : Unmade → Type 0
 MadeOnTime (refused refusal) = ⊤
 MadeOnTime (troubled trouble) = IsOnTime trouble
 
@@ -76,7 +76,7 @@ store_on_time (faulted is_full) h = tt
 store_on_time (faulted (is_expired planned_at now)) h = h
 store_on_time no_memory h = tt
 
-abbrev OnTime : Gives Unmade ⊤ → Type 0
+abbrev pub OnTime : Gives Unmade ⊤ → Type 0
 OnTime given = IfErr MadeOnTime given.answer
 
 last_made_timely : (count : ℕ) (entry : Entry) (m : Made) (core : Core) → OnTime (last_made count entry m core)
@@ -130,7 +130,7 @@ module _ (act : Core → Act) where
         by true = tt
         by false = first_timely (calls.answer_behind core.history (entry_of (act core) core)) core
 
-  appended_timely : (fate : Fate) (core : Core) → OnTime (appended fate act core)
+  pub appended_timely : (fate : Fate) (core : Core) → OnTime (appended fate act core)
   appended_timely fate core = by fate.unasked
     where
       by : (b : Bool) → OnTime (asking b (troubled no_memory) core (λ c. transact c.unsure fate.first fate.second fate.third act c))
