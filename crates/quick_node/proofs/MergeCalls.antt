@@ -255,7 +255,7 @@ no_ok refusal (Err other) e ok = false_is_true ok
 
 -- an answer behind a configuration, where the moment doesn't fall
 module _ (es : List Entry) (moment : ℕ) (legal : Legal reads (history es)) (some : 0 < length es) (late : moment_of (history es) ≤ moment) where
-  begun_here : Begun (history es)
+  pub begun_here : Begun (history es)
   begun_here = begun_history (history es) legal (let r = revision_is es in omega (arith, r, some))
 
   abbrev Answering : (act : Act) → Option Config → Result (Unit {0}) Refusal
