@@ -4,7 +4,7 @@ use Rattle.std.proofs.Math.Seq.{take-length}
 use Rattle.std.proofs.lemmas.Bool.{leb-true}
 use Rattle.std.proofs.lemmas.List.{append-nil, length-append, length-map, take-append-le}
 use Rattle.std.specs.List.{AllByRecursion}
-use Rattle.std.specs.Prelude.{Option, Some, None, Result, Ok, Err, ⊤, Contains, nat_le, slice_get}
+use Rattle.std.specs.Prelude.{◌==◌, ◌||◌, Option, Some, None, Result, Ok, Err, ⊤, Contains, nat_le, slice_get}
 use Rattle.meta_journal.specs.declared.entry.Act.TheVariants.{Replace, Stage}
 use Rattle.meta_journal.specs.declared.entry.Entry.{Entry}
 use Rattle.meta_store.proofs.Numbers.{history-snoc}
@@ -20,7 +20,7 @@ use Rattle.split_states.specs.Answers.{AreApart, IsIn, answer_to_replace}
 use Rattle.split_states.specs.declared.facts.RowFacts.{RowFacts}
 use Rattle.split_states.specs.declared.rows.Row.{Row}
 use Rattle.split_states.specs.declared.rows.RowState.TheVariants.{Published, Staged}
-use Rattle.index_world.specs.Calls.{Trouble, faulted, no_memory, Unmade, refused, troubled, Unread, not_read, answer_behind, asked_and_looked, entry_of, fetched, loaded, upload_made}
+use Rattle.index_world.specs.Calls.{Call, Fate, Trouble, faulted, no_memory, Unmade, refused, troubled, Unread, not_read, answer_behind, asked_and_looked, begun, entry_of, fetched, load_by, loaded, may_fail, read_journal, store_failed, unless_empty, upload_made}
 use Rattle.index_world.specs.Calls as calls
 use Rattle.index_world.specs.Config.{reads}
 use Rattle.index_world.specs.Configuration.{config_or, configuration}
@@ -49,7 +49,7 @@ use Rattle.quick_node.specs.Reading.{Ending, stopped, ReadsFrom, fit_if, fit_of,
 use Rattle.quick_node.specs.Serve.{IsPrefixOf, Before, After, End, by_reading, no_index, opening_failed, read_failed, write_failed, out_of_memory, HasEnd, IsFresh, Answers, RanShort, Lives}
 use Rattle.quick_node.proofs.Clocks.{turn_ticks}
 use Rattle.quick_node.proofs.EntryRows.{legal_before}
-use Rattle.quick_node.proofs.Files.{IsTimed, appended_few, asked_and_looked_one, loaded_few}
+use Rattle.quick_node.proofs.Files.{IsTimed, appended_few, asked_and_looked_one, begun_still, loaded_few}
 use Rattle.quick_node.proofs.Living.{opens_moves}
 use Rattle.quick_node.proofs.MergeCalls.{Appends, Picks, appended_says, is_crowded, is_hindered, is_refused, picks, picks_none}
 use Rattle.quick_node.proofs.Names.{moments_go_on}
