@@ -16,11 +16,12 @@ use Rattle.indexing_run.specs.Places.{Batch, Held, Place, idle, reading, staged,
 use Rattle.indexing_run.specs.Steps.{LogCall, Stepped, stepped, log_may_fail, log_called, checkpoints_by, checkpoints_given, take_checkpoints, idle_by, step_idle, read_by, read_given, read_asked, step_read, stage_given, step_stage, batch_facts, upload_given, step_upload, publish_given, step_publish, step_batch, step_place, step_indexer}
 use Rattle.indexing_run.specs.Steps as indexing
 use Rattle.root_search.specs.Requests.{ask_of, asked_of}
-use Rattle.root_search.specs.Steps.{Request, no_request, opened, planned, Plan, Client, Searched, plan_given, delete_given, opened_by, fetch_by, fetch_given, fetched_each, config_in, next_step, step_request, step_client}
+use Rattle.root_search.specs.Steps.{Request, no_request, opened, planned, Plan, Client, Searched, plan_by, plan_given, delete_given, opened_by, fetch_by, fetch_given, fetched_each, config_in, next_step, step_request, step_client}
 use Rattle.root_search.specs.Steps as searching
-use Rattle.root_search.proofs.Steps.{delete_core, delete_short, plan_short}
+use Rattle.root_search.proofs.Steps.{delete_core, delete_short}
 use Rattle.search_api.specs.Resolved.{Asked, IsDelete, IsSearch, Search}
 use Rattle.search_api.specs.declared.unanswered.Unanswered.{Unanswered}
+use Rattle.search_api.specs.declared.unanswered.Unanswered.TheVariants as reasons
 use Rattle.node_run.specs.Calm.{IsStill}
 use Rattle.node_run.specs.Turns.{calm, indexing_luck, searching_luck}
 use Rattle.node_run.proofs.Moving.{stage_same, upload_same, publish_same, given_same, plan_same, fetch_same}
@@ -236,8 +237,13 @@ SearchCalms step calm_step = (step.outcome ≡ None) ⊎ (step ≡ calm_step)
 abbrev pub calm_searching : searching.Luck
 calm_searching = searching_luck calm
 
+plan_none : (asked : Result Search Unanswered) (client : Client) (core : Core) → (plan_by (Err no_memory) asked client core).outcome ≡ None
+plan_none (Ok search) client core = refl
+plan_none (Err (reasons.Refused refusal)) client core = refl
+plan_none (Err (reasons.Memory e)) client core = refl
+
 plan_calms : (asked : Result Search Unanswered) (client : Client) (g g' : Gives Trouble ⊤) → Calms no_memory g g' → SearchCalms (plan_given asked client g) (plan_given asked client g')
-plan_calms asked client g g' (inl e) = inl (plan_short g.answer asked client g.core e)
+plan_calms asked client g g' (inl e) = inl (ap (λ r. (plan_by r asked client g.core).outcome) e ∙ plan_none asked client g.core)
 plan_calms asked client g g' (inr e) = inr (ap (plan_given asked client) e)
 
 delete_calms : (client : Client) (g g' : Gives Unmade ⊤) → Calms (troubled no_memory) g g' → SearchCalms (delete_given client g) (delete_given client g')
