@@ -19,7 +19,7 @@ use Rattle.doc_value.specs.declared.doc.DocField.{DocField}
 use Rattle.index_config.specs.declared.config.IndexConfig.{IndexConfig}
 use Rattle.index_world.specs.Accepted.{accepted}
 use Rattle.index_world.specs.Configuration.{configuration, config_or}
-use Rattle.index_world.specs.Calls.{Trouble, faulted, no_memory, Unmade, refused, troubled, Unread, not_read, looked, asked, appended, upload_made}
+use Rattle.index_world.specs.Calls.{Trouble, faulted, no_memory, Unmade, refused, troubled, Unread, not_read, looked, asked, upload_made}
 use Rattle.index_world.specs.Calls as calls
 use Rattle.index_world.specs.Core.{Core, journal_of}
 use Rattle.index_world.specs.Gate.{stage_call, publish_call}
@@ -27,7 +27,7 @@ use Rattle.index_world.specs.SplitFile.{file_of}
 use Rattle.index_world.proofs.StoreChanges.{All-snoc}
 use Rattle.indexing_run.specs.Outcomes.{IndexerOutcome, Checkpoint, Read, Staged, Uploaded, Published, CaughtUp, Stale, Lost, Refused, SourceFault, Faulted}
 use Rattle.indexing_run.specs.Places.{Batch, Held, Place, idle, reading, staged, uploaded, Indexer}
-use Rattle.indexing_run.specs.Steps.{Stepped, Taken, with_record, taken_from, start_of, read_limit, batch_after, queue_after, is_empty, marks_at, fresh_batch, partitions_for, log_may_fail, log_called, checkpoints_by, take_checkpoints, idle_by, idle_unless, read_by, read_given, step_read, stage_by, step_stage, batch_facts, upload_by, publish_by, publish_refused, step_batch, step_place, step_indexer}
+use Rattle.indexing_run.specs.Steps.{Stepped, Taken, with_record, taken_from, start_of, read_limit, batch_after, queue_after, is_empty, marks_at, fresh_batch, partitions_for, log_may_fail, log_called, checkpoints_by, take_checkpoints, idle_by, idle_unless, read_by, read_given, step_read, stage_by, step_stage, batch_facts, upload_by, publish_by, publish_refused, step_place, step_indexer}
 use Rattle.indexing_run.specs.Steps as indexing
 use Rattle.indexing_run.proofs.Reading.{target_ranges}
 use Rattle.upkeep_run.specs.Outcomes.{UpkeepOutcome}

@@ -6,7 +6,7 @@ use Rattle.meta_journal.specs.Places.{split_key}
 use Rattle.meta_journal.specs.declared.entry.Entry.{Entry}
 use Rattle.meta_store.specs.declared.refusal.Refusal.{Refusal}
 use Rattle.split_states.specs.declared.rows.Row.{Row}
-use Rattle.index_world.specs.Calls.{is_at_once, Call, Fate, Trouble, faulted, no_memory, Unmade, refused, troubled, Gives, gives, Made, made, exists, failed, as_unmade, asked_clock, begun, create_at_end, deleted_by, entry_of, file_deleted, file_got, get_at_end, last_create, may_append, may_fail, settled}
+use Rattle.index_world.specs.Calls.{is_at_once, Call, Fate, Trouble, faulted, no_memory, Unmade, refused, troubled, Gives, gives, Made, made, exists, failed, as_unmade, asked_clock, begun, create_at_end, deleted_by, entry_of, file_deleted, get_at_end, last_create, may_append, may_fail, settled}
 use Rattle.index_world.specs.Calls as calls
 use Rattle.index_world.specs.Collecting.{Offer, adopted_offer, answered_by, appended_if, doom_call, doom_next, doomed_by, first_offer, is_swept, last_offer, list_call, mark_stale_call, next_doomed, nothing, offer_unless, remove_call, removal_offer, stale_offer, sweep_call, sweep_if, transact_if}
 use Rattle.index_world.specs.Core.{Core, last_count}

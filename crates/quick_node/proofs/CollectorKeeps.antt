@@ -11,7 +11,7 @@ use Rattle.meta_store.specs.Rows.{rows}
 use Rattle.meta_store.specs.declared.refusal.Refusal.{Refusal}
 use Rattle.split_states.specs.Answers.{Repeats}
 use Rattle.split_states.specs.Due.{stale_rows}
-use Rattle.index_world.specs.Calls.{Effect, is_at_once, Call, Fate, Gives, gives, Made, made, exists, failed, Trouble, no_memory, Unmade, troubled, and_then_by, as_unmade, asked_clock, asked_moment, asking, begun, create_at_end, entry_of, fence_of, get_at_end, got_at, last_create, last_made, last_unless, made_at, made_behind, marked_by, marks_of, may_append, may_fail, or_short, risen, settle_made, settle_making, settle_with, settled, taken_in, taken_unless, troubled_by, unless_short}
+use Rattle.index_world.specs.Calls.{Effect, is_at_once, Call, Fate, Gives, Made, made, exists, failed, Trouble, no_memory, Unmade, troubled, and_then_by, asked_clock, asked_moment, asking, begun, create_at_end, entry_of, fence_of, get_at_end, got_at, last_create, last_made, last_unless, made_at, made_behind, marked_by, marks_of, may_append, may_fail, or_short, risen, settle_made, settle_making, settle_with, settled, taken_in, taken_unless, troubled_by, unless_short}
 use Rattle.index_world.specs.Calls as calls
 use Rattle.index_world.specs.Collecting.{Offer, adopted_offer, answered_by, appended_if, config_taken, doomed_rows, first_offer, last_offer, marks_offer, nothing, offer_unless, removal_of, removal_offer, stale_offer, transact_if}
 use Rattle.index_world.specs.Core.{Core, clock_of, taken_at}

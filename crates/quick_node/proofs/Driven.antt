@@ -20,8 +20,11 @@ use Rattle.node_run.specs.Turns.{opened_node}
 use Rattle.quick_node.specs.Faults.{AreBetween, store_told, log_told}
 use Rattle.quick_node.specs.Ending.{EndsSo, ended_status, last_line}
 use Rattle.quick_node.specs.Serve.{IsPrefixOf, Before, After, End, out_of_memory, end_told, status_of, reading_status, WroteLine, Wrote, HasEnd, IsFresh, Opens, Answers, Lives, BeginsAlong, Along, IsShown, AnswersFrom, EntersAs, Drives, ShowsAfter}
+use Rattle.quick_node.specs.Applies.{AppliesFrom, SettlesFrom, idle}
+use Rattle.quick_node.specs.Deletes.{DeletesFrom}
 use Rattle.quick_node.specs.Replaces.{ReplacesFrom, RestsFrom}
 use Rattle.quick_node.specs.declared.error_line.End.{End as Ended}
+use Rattle.quick_node.proofs.Applied.{lives_apply}
 use Rattle.quick_node.proofs.Catching.{lives_catch}
 use Rattle.quick_node.proofs.Calmed.{reader_counts, lives_calm}
 use Rattle.quick_node.proofs.Exact.{exact_status}
@@ -167,6 +170,7 @@ module _ (history : List Entry) (before : Before) (after : After) (fresh last : 
     left = are_left after.kept (journal_of last.core) before.log world.index;
     configured = configured_on history (journal_of last.core) follows.0 world.index.stands.legal;
     searches = follows.1;
+    deletes = follows.2;
     faults = told;
     faultless = λ still. none_told after.store_faults (end_told end ++ flat_map store_told outcomes) still.1
         (subst (λ n. AreBetween n (end_told end ++ flat_map store_told outcomes) after.store_faults) still.0 (told (omega (arith, still.0, still.1))));
@@ -178,6 +182,8 @@ module _ (history : List Entry) (before : Before) (after : After) (fresh last : 
     collects = along_collects (journal_of last.core) world.index.stands.legal history fresh last (ap (λ n. n.core.history) is.is) lines outcomes (unread_front last.core.history last.core.standing) along;
     replaces = merges.0;
     rests = merges.1;
+    applies = applied.0;
+    settles = applied.1;
     tell = tell;
     fresh = fresh;
     is_fresh = is;
@@ -194,6 +200,9 @@ module _ (history : List Entry) (before : Before) (after : After) (fresh last : 
       merges : ReplacesFrom (journal_of last.core) 0 (length history) [] lines outcomes × RestsFrom (journal_of last.core) 0 (length history) lines outcomes
       merges = lives_merge (journal_of last.core) world.index.stands.legal history before fresh is after end lines outcomes last ends lives (unread_front last.core.history last.core.standing)
 
+      applied : AppliesFrom (journal_of last.core) (length history) idle lines outcomes × SettlesFrom (journal_of last.core) (length history) outcomes
+      applied = lives_apply (journal_of last.core) world.index.stands.legal history before fresh is after end lines outcomes last ends lives (unread_front last.core.history last.core.standing)
+
       told : before.store_faults ≤ last_count → AreBetween before.store_faults (end_told end ++ flat_map store_told outcomes) after.store_faults
       told bound =
           let same : fresh.core.store_faults ≡ before.store_faults = ap (λ n. n.core.store_faults) is.is in
@@ -202,7 +211,8 @@ module _ (history : List Entry) (before : Before) (after : After) (fresh last : 
           (lives_told before fresh (omega (arith, same, bound)) end lines outcomes last lives))
 
       follows : IsPrefixOf history (journal_of last.core) × AnswersFrom (journal_of last.core) before.log (length history) [] lines outcomes
-      follows = lives_follow history (journal_of last.core) before fresh is end lines outcomes last lives (unread_front last.core.history last.core.standing)
+          × DeletesFrom (journal_of last.core) (length history) [] lines outcomes
+      follows = lives_follow history (journal_of last.core) world.index.stands.legal before fresh is end lines outcomes last lives (unread_front last.core.history last.core.standing)
 
   drives_of : (e : Ended) (left : Option (List ℕ)) (read write status : ℕ) (text piece : List ℕ) → Met before fresh e left read write text last → after.left ≡ left → read ≤ after.read_faults → before.write_faults ≤ write → write ≤ after.write_faults →
       after.written ≡ (before.written ++ text) ++ piece →

@@ -5,7 +5,7 @@ use Rattle.std.proofs.lemmas.List.{length-append}
 use Rattle.std.specs.Prelude.{◌≢◌, Option, Some, None, Result, Err, ⊤, slice_get, is_some, nat_lt, ◌==◌, ◌&&◌, ◌||◌}
 use Rattle.byte_fields.specs.Causes.{Rose}
 use Rattle.meta_journal.specs.declared.entry.Entry.{Entry}
-use Rattle.index_world.specs.Calls.{Fate, Call, Fault, store_fault, faulted, no_memory, Unread, not_read, Gives, gives, risen, may_fail, entry_lands, file_lands, late_lands, land_at, all_landed, begun, loaded, load_by, unless_empty, read_journal}
+use Rattle.index_world.specs.Calls.{Fate, Call, Fault, store_fault, faulted, no_memory, Unread, not_read, gives, risen, may_fail, entry_lands, file_lands, late_lands, land_at, all_landed, begun, loaded, load_by, unless_empty, read_journal}
 use Rattle.index_world.specs.Calls as calls
 use Rattle.index_world.specs.Core.{Core, Late, late_entry, late_dead, late_file, file_at, last_count}
 use Rattle.node_run.specs.Node.{Node, Line, Outcome}

@@ -10,28 +10,31 @@ use Rattle.doc_tallies.specs.Picked.{docs_of}
 use Rattle.doc_value.specs.declared.schema.Schema.{Schema}
 use Rattle.index_config.specs.declared.config.IndexConfig.{IndexConfig}
 use Rattle.meta_journal.specs.declared.entry.Entry.{Entry}
-use Rattle.meta_store.specs.History.{history}
+use Rattle.meta_store.specs.History.{history, last_opstamp}
 use Rattle.meta_store.specs.State.{Legal}
+use Rattle.meta_store.specs.declared.refusal.Refusal.{Refusal as StateRefusal}
+use Rattle.meta_store.specs.declared.refusal.Refusal.TheVariants as states
 use Rattle.source_log.specs.Log.{Log}
 use Rattle.split_bundle.specs.declared.placed.Placed.{Placed}
-use Rattle.search_api.specs.Resolved.{Search}
+use Rattle.search_api.specs.Resolved.{Asked, IsDelete, IsSearch, Search}
 use Rattle.search_api.specs.declared.reply.Refusal.{Refusal}
 use Rattle.search_api.specs.declared.reply.Refusal.TheVariants as refusals
 use Rattle.search_api.specs.declared.reply.Said.{Said}
-use Rattle.search_api.specs.declared.reply.Said.TheVariants.{Found, Refused}
+use Rattle.search_api.specs.declared.reply.Said.TheVariants.{Found, Deleted, Refused}
 use Rattle.search_api.specs.declared.unanswered.Unanswered.{Unanswered}
 use Rattle.search_api.specs.declared.unanswered.Unanswered.TheVariants as reasons
-use Rattle.index_world.specs.Calls.{Fate, Call, Fault, store_fault, is_foreign, is_full, is_expired, Grace, Trouble, faulted, no_memory, Unread, not_read, Gives, asked_and_looked, asked_clock, asking, begun, fetched, file_got, got_file, loaded, may_fail, or_short, unless_over}
+use Rattle.index_world.specs.Calls.{Fate, Call, Fault, store_fault, is_foreign, is_full, is_expired, Grace, Trouble, faulted, no_memory, Unmade, troubled, Unread, not_read, Gives, asked_and_looked, asked_clock, asking, begun, fetched, file_got, got_file, loaded, may_fail, or_short, unless_over}
 use Rattle.index_world.specs.Calls as calls
 use Rattle.index_world.specs.Config.{reads}
 use Rattle.index_world.specs.Configuration.{configuration, config_or}
 use Rattle.index_world.specs.Core.{Core}
+use Rattle.index_world.specs.Gate.{task_act, task_call}
 use Rattle.index_world.specs.Seen.{visible_at}
 use Rattle.indexing_run.specs.Outcomes.{IndexerOutcome}
 use Rattle.indexing_run.specs.Places.{Place, idle, reading, staged, uploaded, Indexer}
 use Rattle.root_search.specs.Answer.{answer, matching, printed, shown}
-use Rattle.root_search.specs.Requests.{asked_of}
-use Rattle.root_search.specs.Steps.{Request, no_request, opened, planned, Plan, Client, Luck, Searched, config_at, config_in, fault_refusal, fetch_by, fetched_each, next_step, or_short as or_unsaid, plan_by, refused_over, reply_with, step_client, step_request, trouble_replied, unless_fault, without_memory, without_request}
+use Rattle.root_search.specs.Requests.{ask_of, asked_of}
+use Rattle.root_search.specs.Steps.{Request, no_request, opened, planned, Plan, Client, Luck, Searched, config_at, config_in, delete_by, fault_refusal, fetch_by, fetched_each, next_step, opened_by, or_short as or_unsaid, plan_by, plan_given, refused_over, reply_with, state_refusal, step_client, step_request, trouble_replied, unless_fault, without_memory, without_request}
 use Rattle.root_search.specs.declared.outcome.SearchStep.{SearchStep}
 use Rattle.root_search.specs.declared.outcome.SearchStep.TheVariants.{Idle, Planned, Fetched, Replied}
 use Rattle.split_collector.specs.Outcomes.{Outcome as CollectorOutcome}
@@ -49,7 +52,7 @@ use Rattle.node_run.proofs.Moving.{plan_same, turn_later, turns_later}
 use Rattle.node_run.proofs.Refusals.{OfText, asked_of_text}
 use Rattle.quick_node.specs.Expires.{ExpiresOver, IsOver, SaidIsOver}
 use Rattle.quick_node.specs.Serve.{IsPrefixOf, Before, End, by_reading, no_index, opening_failed, read_failed, write_failed, out_of_memory, IsFresh, Answers, RanShort, Lives}
-use Rattle.quick_node.proofs.Lateness.{IsLate, WorkOver, WorkerKeeps, fetched_late, worker_keeps}
+use Rattle.quick_node.proofs.Lateness.{IsLate, IsOnTime, MadeOnTime, WorkOver, WorkerKeeps, appended_timely, fetched_late, worker_keeps}
 use Rattle.quick_node.proofs.Living.{opens_moves}
 use Rattle.quick_node.proofs.Onces.{configured_on}
 use Rattle.quick_node.proofs.Searching.{prefix_on}
@@ -108,6 +111,27 @@ module _ (grace : ℕ) where
   late_over until (faulted (is_expired planned_at now)) k h = let same = h.0 in let le = h.1 in omega (arith, k, same, le)
   late_over until no_memory k h = tt
 
+  on_time_over : (trouble : Trouble) → IsOnTime trouble → TroubleOver trouble
+  on_time_over (faulted (store_fault before after)) h = tt
+  on_time_over (faulted (is_foreign key)) h = tt
+  on_time_over (faulted is_full) h = tt
+  on_time_over (faulted (is_expired planned_at now)) h = absurd h
+  on_time_over no_memory h = tt
+
+  state_over : (refusal : StateRefusal) → IsOver grace (state_refusal refusal)
+  state_over (states.TooManyTasks count) = tt
+  state_over (states.MomentBack given greatest) = tt
+  state_over states.NotCreated = tt
+  state_over states.AlreadyCreated = tt
+  state_over (states.BadConfig error) = tt
+  state_over (states.NotNext given next) = tt
+  state_over (states.Delta fault) = tt
+  state_over (states.State refusal) = tt
+  state_over (states.BadTask error) = tt
+  state_over (states.UptoAhead upto last) = tt
+  state_over (states.TooManyRows count) = tt
+  state_over (states.TooManySpans count) = tt
+
   reply_keeps : (revision : ℕ) (said : Said) (client : Client) (core : Core) → SaidIsOver grace said → StepKeeps grace (reply_with revision said client core)
   reply_keeps revision said client core h = record { request = tt; said = h }
 
@@ -130,6 +154,12 @@ module _ (grace : ℕ) where
   plan_keeps (Err trouble) (Ok search) client core t h same = trouble_keeps client.front trouble client core (store_over trouble t)
   plan_keeps (Err trouble) (Err (reasons.Refused refusal)) client core t h same = refused_keeps client.front refusal trouble client core h
   plan_keeps (Err trouble) (Err (reasons.Memory e)) client core t h same = memory_keeps client core
+
+  -- a delete is never too late
+  delete_keeps : (r : Result ⊤ Unmade) (client : Client) (core : Core) → IfErr MadeOnTime r → StepKeeps grace (delete_by r client core)
+  delete_keeps (Ok done) client core h = reply_keeps (length core.history) (Deleted (last_opstamp (history core.history))) client core tt
+  delete_keeps (Err (calls.refused refusal)) client core h = reply_keeps client.front (Refused (state_refusal refusal)) client core (state_over refusal)
+  delete_keeps (Err (troubled trouble)) client core h = trouble_keeps client.front trouble client core (on_time_over trouble h)
 
   fetch_keeps : (r : Result ⊤ Trouble) (plan : Plan) (number : ℕ) (more : List ℕ) (client : Client) (core : Core) → Keeps grace (planned plan) → IfErr (IsLate plan.grace) r →
       StepKeeps grace (fetch_by r plan number more client core)
@@ -154,14 +184,25 @@ module _ (grace : ℕ) where
         let given = fetched_each plan.grace luck.world luck.more core in fetch_keeps given.answer plan number more client given.core k (each_late plan.grace luck.more luck.world core)
 
     -- a plan goes by the configuration behind its step
+    plans_keep : (asked : Result Search Unanswered) → OfText asked → (config_in (plan_given asked client (asked_and_looked luck.world core)).core).deletion_grace ≡ grace →
+        StepKeeps grace (plan_given asked client (asked_and_looked luck.world core))
+    plans_keep asked h same =
+        let given = asked_and_looked luck.world core in
+        plan_keeps given.answer asked client given.core (asked_and_looked_own luck.world core) h
+        (subst (λ (c : Core). (config_in c).deletion_grace ≡ grace) (plan_same given.answer asked client given.core) same)
+
+    opened_keeps : (asked : Result Asked Unanswered) → OfText asked → (config_in (opened_by asked luck.world client core).core).deletion_grace ≡ grace →
+        StepKeeps grace (opened_by asked luck.world client core)
+    opened_keeps (Ok (IsSearch search)) h same = plans_keep (Ok search) tt same
+    opened_keeps (Ok (IsDelete deletion)) h same =
+        let given = task_call (ask_of deletion) luck.world core in delete_keeps given.answer client given.core (appended_timely (task_act (ask_of deletion)) luck.world core)
+    opened_keeps (Err (reasons.Refused refusal)) h same = plans_keep (Err (reasons.Refused refusal)) h same
+    opened_keeps (Err (reasons.Memory e)) h same = plans_keep (Err (reasons.Memory e)) tt same
+
     request_keeps : (request : Request) → Keeps grace request → client.request ≡ request → (config_in (step_request request luck log client core).core).deletion_grace ≡ grace →
         StepKeeps grace (step_request request luck log client core)
     request_keeps no_request k e same = record { request = subst (Keeps grace) (sym e) tt; said = tt }
-    request_keeps (opened text) k e same =
-        let given = asked_and_looked luck.world core in
-        let asked = asked_of (config_in given.core) text in
-        plan_keeps given.answer asked client given.core (asked_and_looked_own luck.world core) (asked_of_text (config_in given.core) text)
-        (subst (λ (c : Core). (config_in c).deletion_grace ≡ grace) (plan_same given.answer asked client given.core) same)
+    request_keeps (opened text) k e same = opened_keeps (asked_of (config_in core) text) (asked_of_text (config_in core) text) same
     request_keeps (planned plan) k e same = next_keeps plan plan.unfetched k
 
     short_keeps : (b : Bool) (step : Searched) → StepKeeps grace step → StepKeeps grace (or_unsaid b client step)

@@ -13,7 +13,7 @@ use Rattle.source_log.specs.Log.{Log}
 use Rattle.index_world.specs.Calls.{Fate, Call, Fault, store_fault, is_foreign, is_full, is_expired, Grace, unless_over, Trouble, faulted, no_memory, Unmade, refused, troubled, Unread, not_read, Gives, gives, Made, made, exists, failed, Making, risen, may_fail, begun, tried, made_behind, made_at, create_at_end, taken_in, or_short, unless_short, asked_clock, asking, and_then, and_then_by, taken_unless, got_at, get_at_end, settle_made, settle_with, settled, fence_of, entry_of, may_append, last_made, last_unless, last_create, troubled_by, as_unmade, adopted_made, first_unless, transact, appended, looked, settled_and_copied, asked_and_looked, asked, file_by, file_made, got_file, file_got, fetched, with_standing, read_journal, unless_empty, load_by, loaded}
 use Rattle.index_world.specs.Calls as calls
 use Rattle.index_world.specs.Core.{Core, last_count}
-use Rattle.index_world.specs.Gate.{stage_act}
+use Rattle.index_world.specs.Gate.{stage_act, task_act, task_call}
 use Rattle.index_world.specs.Seen.{visible_at}
 use Rattle.index_world.specs.SplitFile.{file_of}
 use Rattle.indexing_run.specs.Outcomes.{IndexerOutcome}
@@ -26,15 +26,15 @@ use Rattle.agg_model.specs.Answers.{most_buckets}
 use Rattle.doc_tallies.specs.Picked.{docs_of}
 use Rattle.doc_value.specs.declared.schema.Schema.{Schema}
 use Rattle.split_bundle.specs.declared.placed.Placed.{Placed}
-use Rattle.search_api.specs.Resolved.{Search}
+use Rattle.search_api.specs.Resolved.{Asked, IsDelete, IsSearch, Search}
 use Rattle.search_api.specs.declared.reply.Refusal.{Refusal as Unfit}
 use Rattle.search_api.specs.declared.reply.Refusal.TheVariants as refusals
 use Rattle.search_api.specs.declared.reply.Said.TheVariants as given
 use Rattle.search_api.specs.declared.unanswered.Unanswered.{Unanswered}
 use Rattle.search_api.specs.declared.unanswered.Unanswered.TheVariants as reasons
 use Rattle.root_search.specs.Answer.{answer, matching, printed, shown}
-use Rattle.root_search.specs.Requests.{asked_of}
-use Rattle.root_search.specs.Steps.{Request, no_request, opened, planned, Plan, Client, config_at, config_in, plan_by, fetch_by, fetched_each, unless_fault, next_step, step_request, step_client}
+use Rattle.root_search.specs.Requests.{ask_of, asked_of}
+use Rattle.root_search.specs.Steps.{Request, no_request, opened, planned, Plan, Client, config_at, config_in, delete_by, opened_by, plan_by, plan_given, state_refusal, fetch_by, fetched_each, unless_fault, next_step, step_request, step_client}
 use Rattle.root_search.specs.Steps as searching
 use Rattle.root_search.specs.declared.outcome.SearchStep.{SearchStep}
 use Rattle.split_collector.specs.Outcomes.{Outcome as CollectorOutcome}
@@ -224,6 +224,26 @@ plan_said low (Err trouble) (Err (reasons.Refused refusal)) client core g h =
     refused_said low client.front refusal trouble client core h (record { says = g.says; on = g.on; bound = g.bound })
 plan_said low (Err trouble) (Err (reasons.Memory e)) client core g h = record { says = g.on; on = g.on; bound = g.bound }
 
+-- nor does a task that the index's state refuses
+state_none : (refusal : Refusal) → refusal_told (state_refusal refusal) ≡ []
+state_none (TooManyTasks count) = refl
+state_none (MomentBack given greatest) = refl
+state_none NotCreated = refl
+state_none AlreadyCreated = refl
+state_none (BadConfig error) = refl
+state_none (NotNext given next) = refl
+state_none (Delta fault) = refl
+state_none (State refusal) = refl
+state_none (BadTask error) = refl
+state_none (UptoAhead upto last) = refl
+state_none (TooManyRows count) = refl
+state_none (TooManySpans count) = refl
+
+delete_said : (low : ℕ) (r : Result ⊤ Unmade) (client : Client) (core : Core) → Good unmade_told low (gives r core) → Searching low (delete_by r client core)
+delete_said low (Ok done) client core g = record { says = g.on; on = g.on; bound = g.bound }
+delete_said low (Err (refused refusal)) client core g = none_said low (refusal_told (state_refusal refusal)) core (state_none refusal) g.on g.bound
+delete_said low (Err (troubled trouble)) client core g = replied_said low client.front trouble client core (record { says = g.says; on = g.on; bound = g.bound })
+
 -- nor does an answer
 buckets_none : (b : Bool) (many count : ℕ) (lines : List (List ℕ)) (results : List NestedAnswer) → said_told (if b then given.Refused (refusals.TooManyBuckets count) else given.Found many lines results) ≡ []
 buckets_none true many count lines results = refl
@@ -249,12 +269,22 @@ module _ (luck : searching.Luck) (log : Log) (client : Client) (core : Core) (bo
       let given = fetched_each plan.grace luck.world luck.more core in
       fetch_said core.store_faults given.answer plan number more client given.core (as_given trouble_told core.store_faults given (each_good plan.grace luck.more luck.world core bound))
 
+  plans_said : (asked : Result Search Unanswered) → OfText asked → Searching core.store_faults (plan_given asked client (asked_and_looked luck.world core))
+  plans_said asked h =
+      let given = asked_and_looked luck.world core in
+      plan_said core.store_faults given.answer asked client given.core (as_given trouble_told core.store_faults given (asked_and_looked_good luck.world core bound)) h
+
+  opened_said : (asked : Result Asked Unanswered) → OfText asked → Searching core.store_faults (opened_by asked luck.world client core)
+  opened_said (Ok (IsSearch search)) h = plans_said (Ok search) tt
+  opened_said (Ok (IsDelete deletion)) h =
+      let given = task_call (ask_of deletion) luck.world core in
+      delete_said core.store_faults given.answer client given.core (as_given unmade_told core.store_faults given (appended_good luck.world (task_act (ask_of deletion)) core bound))
+  opened_said (Err (reasons.Refused refusal)) h = plans_said (Err (reasons.Refused refusal)) h
+  opened_said (Err (reasons.Memory e)) h = plans_said (Err (reasons.Memory e)) tt
+
   request_said : (request : Request) → Searching core.store_faults (step_request request luck log client core)
   request_said no_request = still core bound
-  request_said (opened text) =
-      let given = asked_and_looked luck.world core in
-      plan_said core.store_faults given.answer (asked_of (config_in given.core) text) client given.core
-      (as_given trouble_told core.store_faults given (asked_and_looked_good luck.world core bound)) (asked_of_text (config_in given.core) text)
+  request_said (opened text) = opened_said (asked_of (config_in core) text) (asked_of_text (config_in core) text)
   request_said (planned plan) = next_said plan plan.unfetched
 
   search_short : (b : Bool) (step : searching.Searched) → Searching core.store_faults step → Searching core.store_faults (searching.or_short b client step)

@@ -23,15 +23,18 @@ use Rattle.index_world.specs.Calls.{Effect, done_at_once, done_late, done_never,
 use Rattle.index_world.specs.Calls as calls
 use Rattle.index_world.specs.Created.{first_made, created_by, created_behind, created}
 use Rattle.index_world.specs.Core.{Core, clock_of, File, Late, late_entry, late_dead, late_file, file_at, with_unread, journal_of}
-use Rattle.index_world.specs.Gate.{stage_act}
+use Rattle.index_world.specs.Gate.{stage_act, task_act, task_call}
 use Rattle.index_world.specs.SplitFile.{file_of}
 use Rattle.index_world.proofs.StoreKeys.{none_some}
 use Rattle.indexing_run.specs.Places.{Batch, Held, Place, idle, reading, staged, uploaded, Indexer}
 use Rattle.indexing_run.specs.Steps.{Stepped, log_may_fail, log_called, take_checkpoints, idle_by, step_read, step_stage, batch_facts, step_upload, step_publish, step_batch, step_place, step_indexer}
 use Rattle.indexing_run.specs.Steps as indexing
-use Rattle.root_search.specs.Requests.{asked_of}
-use Rattle.root_search.specs.Steps.{Request, no_request, opened, planned, Plan, Client, fetched_each, unless_fault, config_in, next_step, step_request, step_client}
+use Rattle.root_search.specs.Requests.{ask_of, asked_of}
+use Rattle.root_search.specs.Steps.{Request, no_request, opened, planned, Plan, Client, fetched_each, unless_fault, config_in, next_step, opened_by, plan_given, step_request, step_client}
 use Rattle.root_search.specs.Steps as searching
+use Rattle.root_search.proofs.Steps.{delete_core}
+use Rattle.search_api.specs.Resolved.{Asked, IsDelete, IsSearch, Search}
+use Rattle.search_api.specs.declared.unanswered.Unanswered.{Unanswered}
 use Rattle.node_run.proofs.CallMoves.{got_file_same}
 use Rattle.node_run.proofs.Moving.{checkpoints_same, stage_same, upload_same, publish_same, given_same, plan_same, fetch_same}
 
@@ -59,7 +62,7 @@ IsOwn (Stage number delta facts) = ⊤
 IsOwn (Publish number) = ⊤
 IsOwn (Replace new old upto) = ⊥
 IsOwn (Raise number upto) = ⊥
-IsOwn (Task opstamp text fields times) = ⊥
+IsOwn (Task opstamp text fields times) = ⊤
 IsOwn (MarkStaged numbers) = ⊤
 IsOwn (Remove numbers) = ⊤
 IsOwn (Retire numbers) = ⊥
@@ -660,11 +663,20 @@ module _ (luck : searching.Luck) (log : Log) (client : Client) (core : Core) whe
   next_few plan [] = none Few tt (still core)
   next_few plan (number ∷ more) = same (none Few tt (each_still plan.grace luck.more luck.world core)) (fetch_same _ plan number more client _)
 
+  plans_few : (asked : Result Search Unanswered) → Takes Few core (plan_given asked client (asked_and_looked luck.world core)).core
+  plans_few asked =
+      let given = asked_and_looked luck.world core in same (weaker One Few one_few (asked_and_looked_one luck.world core)) (plan_same given.answer asked client given.core)
+
+  opened_few : (asked : Result Asked Unanswered) → Takes Few core (opened_by asked luck.world client core).core
+  opened_few (Ok (IsSearch search)) = plans_few (Ok search)
+  opened_few (Ok (IsDelete deletion)) =
+      let given = task_call (ask_of deletion) luck.world core in
+      same (appended_few (task_act (ask_of deletion)) (λ c. tt) luck.world core) (delete_core given.answer client given.core)
+  opened_few (Err reason) = plans_few (Err reason)
+
   request_few : (request : Request) → Takes Few core (step_request request luck log client core).core
   request_few no_request = none Few tt (still core)
-  request_few (opened text) =
-      let given = asked_and_looked luck.world core in
-      same (weaker One Few one_few (asked_and_looked_one luck.world core)) (plan_same given.answer (asked_of (config_in given.core) text) client given.core)
+  request_few (opened text) = opened_few (asked_of (config_in core) text)
   request_few (planned plan) = next_few plan plan.unfetched
 
   pub client_few : Takes Few core (step_client luck log client core).core

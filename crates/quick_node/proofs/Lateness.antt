@@ -9,7 +9,7 @@ use Rattle.meta_journal.specs.declared.entry.Entry.{Entry}
 use Rattle.meta_store.specs.declared.refusal.Refusal.{Refusal}
 use Rattle.source_log.specs.Log.{Log}
 use Rattle.split_states.specs.declared.rows.Row.{Row}
-use Rattle.index_world.specs.Calls.{Effect, done_at_once, done_late, done_never, Fate, Call, Fault, store_fault, is_foreign, is_full, is_expired, Grace, Trouble, faulted, no_memory, Unmade, refused, troubled, Gives, Made, made, exists, failed, adopted_made, and_then_by, appended, asked_and_looked, asked_clock, asking, begun, create_at_end, entry_of, fetched, file_by, file_got, file_made, first_unless, full_answer, get_at_end, got_file, last_create, last_made, last_unless, may_append, may_fail, or_full, or_short, settled, transact, troubled_by, unless_over, upload_made}
+use Rattle.index_world.specs.Calls.{Effect, done_at_once, done_late, done_never, Fate, Call, store_fault, is_foreign, is_full, is_expired, Grace, Trouble, faulted, no_memory, Unmade, refused, troubled, Gives, Made, made, exists, failed, adopted_made, and_then_by, appended, asked_and_looked, asked_clock, asking, begun, create_at_end, entry_of, fetched, file_by, file_got, file_made, first_unless, full_answer, get_at_end, got_file, last_create, last_made, last_unless, may_append, may_fail, or_full, or_short, settled, transact, troubled_by, unless_over, upload_made}
 use Rattle.index_world.specs.Calls as calls
 use Rattle.index_world.specs.Core.{Core, file_at}
 use Rattle.index_world.specs.Gate.{raise_call, replace_call, stage_act, stage_call}
@@ -58,14 +58,14 @@ module _ (grace : Grace) where
 
 -- ---- calls that are never too late
 
-abbrev IsOnTime : Trouble → Type 0
+abbrev pub IsOnTime : Trouble → Type 0
 IsOnTime (faulted (store_fault before after)) = ⊤
 IsOnTime (faulted (is_foreign key)) = ⊤
 IsOnTime (faulted is_full) = ⊤
 IsOnTime (faulted (is_expired planned_at now)) = ⊥
 IsOnTime no_memory = ⊤
 
-abbrev MadeOnTime : Unmade → Type 0
+abbrev pub MadeOnTime : Unmade → Type 0
 MadeOnTime (refused refusal) = ⊤
 MadeOnTime (troubled trouble) = IsOnTime trouble
 
@@ -76,7 +76,7 @@ store_on_time (faulted is_full) h = tt
 store_on_time (faulted (is_expired planned_at now)) h = h
 store_on_time no_memory h = tt
 
-abbrev OnTime : Gives Unmade ⊤ → Type 0
+abbrev pub OnTime : Gives Unmade ⊤ → Type 0
 OnTime given = IfErr MadeOnTime given.answer
 
 last_made_timely : (count : ℕ) (entry : Entry) (m : Made) (core : Core) → OnTime (last_made count entry m core)
@@ -130,7 +130,7 @@ module _ (act : Core → Act) where
         by true = tt
         by false = first_timely (calls.answer_behind core.history (entry_of (act core) core)) core
 
-  appended_timely : (fate : Fate) (core : Core) → OnTime (appended fate act core)
+  pub appended_timely : (fate : Fate) (core : Core) → OnTime (appended fate act core)
   appended_timely fate core = by fate.unasked
     where
       by : (b : Bool) → OnTime (asking b (troubled no_memory) core (λ c. transact c.unsure fate.first fate.second fate.third act c))

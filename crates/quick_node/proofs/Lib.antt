@@ -1,6 +1,8 @@
 pub mod Feeding
 pub mod Written
+pub mod Opened
 mod Searching
+pub mod Fronts
 pub mod Living
 pub mod InOneWay
 pub mod Exact
@@ -39,8 +41,13 @@ mod Gathered
 mod Lateness
 mod Expiring
 mod Timing
+mod Prefixes
+mod WorkerLines
+mod Beginning
 mod MergeCalls
 mod Merged
+mod ApplyCalls
+mod Applied
 mod Sources
 pub mod Founding
 pub mod Founded

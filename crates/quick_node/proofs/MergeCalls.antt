@@ -1,10 +1,11 @@
--- What a merger's calls of the world say of the journal: an entry that was made is the last one; one that was refused may not come behind what was
--- taken in; and a plan's rows are those that the policy chooses.
-use Rattle.std.proofs.Common.{◌≡◌, ◌⊎◌, ◌≢◌, ℕ, zero, suc, ◌+◌, ◌<◌, ◌≤◌, ◌==◌, ◌&&◌, Bool, true, false, cond, List, [], ◌∷◌, ◌++◌, length, take, option_map, min, refl, sym, ap, ◌∙◌, subst, inl, inr, arith, ne_eqb}
+-- What the calls of a merger or a delete worker say of the journal: an entry that was made is the last one; one that was refused may not come behind
+-- what was taken in; and the rows of a merger's plan are those that the policy chooses.
+use Rattle.std.proofs.Common.{◌≡◌, ◌⊎◌, ◌≢◌, ℕ, zero, suc, ◌+◌, ◌<◌, ◌≤◌, ◌==◌, ◌&&◌, Bool, true, false, cond, List, [], ◌∷◌, ◌++◌, length, take, option_map, max, min, refl, sym, ap, ◌∙◌, subst, inl, inr, arith, ne_eqb}
 use Rattle.std.proofs.Math.Seq.{take-length}
 use Rattle.std.proofs.lemmas.Bool.{and_from, eq-eqb, eqb-false, le-leb, le-ltb, ltb-false}
+use Rattle.std.proofs.lemmas.List.{length-append}
 use Rattle.std.specs.List.{AllByRecursion}
-use Rattle.std.specs.Prelude.{◌||◌, Option, Some, None, Result, Ok, Err, IsOk, IsSomeAnd, ⊤, Contains, filter, nat_le, nat_lt}
+use Rattle.std.specs.Prelude.{◌||◌, Option, Some, None, Result, Ok, Err, IsOk, IsSomeAnd, ⊤, Contains, filter, nat_le, nat_lt, slice_get}
 use Rattle.std.specs.Option.{option_or}
 use Rattle.std.specs.Ordering.{is_lt}
 use Rattle.index_config.proofs.Ranges.{accepted-ranges}
@@ -18,11 +19,12 @@ use Rattle.meta_journal.specs.declared.entry.Act.{Act}
 use Rattle.meta_journal.specs.declared.entry.Act.TheVariants.{Replace, Stage}
 use Rattle.meta_journal.specs.declared.entry.Entry.{Entry}
 use Rattle.meta_store.proofs.Answered.{answered}
-use Rattle.meta_store.proofs.Numbers.{each_found, fresh_spans}
+use Rattle.meta_store.proofs.Numbers.{each_found, fresh_spans, history-snoc}
 use Rattle.meta_store.proofs.RowLists.{EachNumberOnce, the_row}
 use Rattle.meta_store.proofs.Sound.{sound}
 use Rattle.meta_store.specs.Answers as answers
 use Rattle.meta_store.specs.History.{history, last_number, last_opstamp, moment_of, stamp_of}
+use Rattle.meta_store.specs.History.History.{◌▸◌}
 use Rattle.meta_store.specs.Planning.{config_fits, is_within, policy_fits, rows_for, rows_of}
 use Rattle.meta_store.specs.Readings.{config_of, reading_of}
 use Rattle.meta_store.specs.Rows.{rows}
@@ -45,9 +47,11 @@ use Rattle.index_world.specs.Calls.{Call, Fate, Gives, Made, made, exists, faile
 use Rattle.index_world.specs.Config.{reads}
 use Rattle.index_world.specs.Configuration.{config_or, configuration, index_of}
 use Rattle.index_world.specs.Core.{Core}
+use Rattle.index_world.specs.Gate.{stage_act}
 use Rattle.index_world.specs.Index.{HasStaged, max_entries}
 use Rattle.index_world.proofs.Asking.{Begun, begun_history}
 use Rattle.index_world.proofs.Configured.{configured_read}
+use Rattle.index_world.proofs.InHand.{HasStaged-new}
 use Rattle.index_world.proofs.Numbers.{revision_is}
 use Rattle.index_world.proofs.StoreKeys.{none_some}
 use Rattle.node_run.proofs.CallMoves.{Grows, get_moves, grows_on, settled_moves, same_grows, troubled_moves}
@@ -58,6 +62,7 @@ use Rattle.upkeep_run.specs.Steps.{rows_in}
 use Rattle.upkeep_run.specs.declared.work.Aim.TheVariants.{Merging}
 use Rattle.quick_node.specs.Replaces.{IsCrowded, IsHindered, IsRefused, chosen_by}
 use Rattle.quick_node.proofs.Files.{create_still}
+use Rattle.quick_node.proofs.Prefixes.{last_at, longer}
 
 -- ---- an entry
 
@@ -140,6 +145,57 @@ module _ (act : Core → Act) where
       by true = tt
       by false = transact_appends core fate.first fate.second fate.third core.unsure (asked_clock core) (same_grows core (asked_clock core) refl)
 
+-- ---- where an entry that was made stands
+
+-- an entry of this act came to stand in the journal of a core, behind that of another
+pub record StandsAt (start core : Core) (act : Act) : Type 0 where
+  pub place : ℕ
+  pub least : length start.history ≤ place
+  pub below : place < length core.history
+  pub entry : Entry
+  pub there : slice_get core.history place ≡ Some entry
+  pub is : entry.act ≡ act
+
+pub made_stands : (act : Core → Act) (start core : Core) (a : Appends act start (Ok tt) core) → StandsAt start core (act a.0)
+made_stands act start core a =
+    let new = entry_of (act a.0) a.0 in
+    let long : length core.history ≡ length a.0.history + 1 = ap length a.2 ∙ length-append a.0.history (new ∷ []) in
+    record {
+      place = length a.0.history;
+      least = longer start.history a.0.history a.1;
+      below = omega (arith, long);
+      entry = new;
+      there = ap (λ (es : List Entry). slice_get es (length a.0.history)) a.2 ∙ last_at a.0.history new;
+      is = refl;
+    }
+
+-- a row was staged without records of its own
+pub record StagesNow (start core : Core) (facts : RowFacts) : Type 0 where
+  pub stands : StandsAt start core (Stage (last_number (history core.history)) [] facts)
+  pub staged : HasStaged core.history (last_number (history core.history)) [] facts
+
+pub stages_now : (facts : RowFacts) (start core : Core) → Legal reads (history core.history) → Appends (stage_act [] facts) start (Ok tt) core → StagesNow start core facts
+stages_now facts start core legal a = record {
+  stands = subst (λ (n : ℕ). StandsAt start core (Stage n [] facts)) (sym number_is) (made_stands (stage_act [] facts) start core a);
+  staged = subst (λ (n : ℕ). HasStaged core.history n [] facts) (sym number_is)
+      (subst (λ (es : List Entry). HasStaged es (last_number (history c.history) + 1) [] facts) (sym a.2)
+      (HasStaged-new c.history c.moment (last_number (history c.history) + 1) [] facts both.0 both.1));
+}
+  where
+    c : Core
+    c = a.0
+
+    new : Entry
+    new = entry_of (stage_act [] facts c) c
+
+    both : Legal reads (history c.history ▸ new)
+    both = subst (Legal reads) (history-snoc c.history new) (subst (λ (es : List Entry). Legal reads (history es)) a.2 legal)
+
+    number_is : last_number (history core.history) ≡ last_number (history c.history) + 1
+    number_is =
+        let next : max (last_number (history c.history)) (last_number (history c.history) + 1) ≡ last_number (history c.history) + 1 = omega arith in
+        ap (λ (es : List Entry). last_number (history es)) a.2 ∙ ap last_number (history-snoc c.history new) ∙ next
+
 -- ---- a Replace that is refused
 
 in_or : (state : RowState) (list : List Row) (n : ℕ) → IsIn state list n ⊎ (IsIn state list n → ⊥)
@@ -199,28 +255,29 @@ no_ok refusal (Err other) e ok = false_is_true ok
 
 -- an answer behind a configuration, where the moment doesn't fall
 module _ (es : List Entry) (moment : ℕ) (legal : Legal reads (history es)) (some : 0 < length es) (late : moment_of (history es) ≤ moment) where
-  begun_here : Begun (history es)
+  pub begun_here : Begun (history es)
   begun_here = begun_history (history es) legal (let r = revision_is es in omega (arith, r, some))
 
   abbrev Answering : (act : Act) → Option Config → Result (Unit {0}) Refusal
   Answering act c = answers.answer_by (reading_of reads c act) c (state_of reads (history es)) moment act
 
-  answer_here : (act : Act) → answer_behind es (record { moment = moment; act = act }) ≡ Answering act (Some begun_here.config)
+  pub answer_here : (act : Act) → answer_behind es (record { moment = moment; act = act }) ≡ Answering act (Some begun_here.config)
   answer_here act =
       ap (λ (b : Bool). then_answer (cond b (Err (MomentBack moment (moment_of (history es)))) (Ok tt)) (Answering act (config_of reads (history es)))) (le-ltb moment (moment_of (history es)) late)
       ∙ ap (Answering act) begun_here.is
 
   -- by what the rows answer
-  replace_by_rows : (n : ℕ) (old : List ℕ) (refusal : Refusal) (r : Result (Unit {0}) StateRefusal) → answer_to_replace (rows (history es)) n old ≡ r →
-      then_answer (answers.in_state r) (answers.answer_to_upto 0 (last_opstamp (history es))) ≡ Err refusal → Refused_so (rows (history es)) n old refusal
-  replace_by_rows n old refusal (Ok done) is e =
-      absurd (ok_is_err refusal (ap (λ (b : Bool). cond b (Err (UptoAhead 0 (last_opstamp (history es)))) (Ok tt)) (sym (le-ltb (last_opstamp (history es)) 0 (omega arith))) ∙ e))
-  replace_by_rows n old refusal (Err reason) is e = (reason, is, refusal_same refusal (BadState reason) (sym e))
+  pub state_refuses : (upto : ℕ) (refusal : Refusal) (r : Result (Unit {0}) StateRefusal) → upto ≤ last_opstamp (history es) →
+      then_answer (answers.in_state r) (answers.answer_to_upto upto (last_opstamp (history es))) ≡ Err refusal → (reason : StateRefusal) × (r ≡ Err reason) × (refusal ≡ BadState reason)
+  state_refuses upto refusal (Ok done) known e =
+      absurd (ok_is_err refusal (ap (λ (b : Bool). cond b (Err (UptoAhead upto (last_opstamp (history es)))) (Ok tt)) (sym (le-ltb (last_opstamp (history es)) upto known)) ∙ e))
+  state_refuses upto refusal (Err reason) known e = (reason, refl, refusal_same refusal (BadState reason) (sym e))
 
-  pub is_refused : (n : ℕ) (old : List ℕ) (refusal : Refusal) → answer_behind es (record { moment = moment; act = Replace n old 0 }) ≡ Err refusal → IsRefused (length es) es n old refusal
-  is_refused n old refusal e =
+  pub is_refused : (n : ℕ) (old : List ℕ) (upto : ℕ) (refusal : Refusal) → upto ≤ last_opstamp (history es) → answer_behind es (record { moment = moment; act = Replace n old upto }) ≡ Err refusal →
+      IsRefused (length es) es n old refusal
+  is_refused n old upto refusal known e =
       subst (λ (xs : List Entry). Refused_so (rows (history xs)) n old refusal) (sym (take-length es))
-      (replace_by_rows n old refusal (answer_to_replace (rows (history es)) n old) refl (sym (answer_here (Replace n old 0)) ∙ e))
+      (state_refuses upto refusal (answer_to_replace (rows (history es)) n old) known (sym (answer_here (Replace n old upto)) ∙ e))
 
   pub is_crowded : (delta : List Part) (facts : RowFacts) (refusal : Refusal) → delta ≡ [] → answer_behind es (record { moment = moment; act = Stage (last_number (history es) + 1) delta facts }) ≡ Err refusal →
       IsCrowded (length es) es refusal
@@ -244,13 +301,13 @@ module _ (es : List Entry) (moment : ℕ) (legal : Legal reads (history es)) (so
       by false t k =
           (ltb-false (length (rows (history es))) 100000 t, refusal_same refusal (TooManyRows (length (rows (history es)))) (sym (ap (λ (b : Bool). cond b (Ok tt) (Err (TooManyRows (length (rows (history es)))))) (sym t) ∙ k)))
 
-module _ (es : List Entry) (moment n : ℕ) (old : List ℕ) (facts : RowFacts) (legal : Legal reads (history es)) (some : 0 < length es) (late : moment_of (history es) ≤ moment) (staged : HasStaged es n [] facts) (any : old ≢ [])
-    (apart : AreApart old) where
+module _ (es : List Entry) (moment n : ℕ) (old : List ℕ) (upto : ℕ) (facts : RowFacts) (legal : Legal reads (history es)) (some : 0 < length es) (late : moment_of (history es) ≤ moment) (known : upto ≤ last_opstamp (history es))
+    (staged : HasStaged es n [] facts) (any : old ≢ []) (apart : AreApart old) where
   abbrev here : List Row
   here = rows (history es)
 
   abbrev entry : Entry
-  entry = record { moment = moment; act = Replace n old 0 }
+  entry = record { moment = moment; act = Replace n old upto }
 
   begun_es : Begun (history es)
   begun_es = begun_history (history es) legal (let r = revision_is es in omega (arith, r, some))
@@ -262,10 +319,10 @@ module _ (es : List Entry) (moment n : ℕ) (old : List ℕ) (facts : RowFacts) 
       subst (λ (o : Option Row). IsSomeAnd o (λ row. (row.state ≡ Staged) × (row.spans ≡ []))) (sym r.1)
       (r.2.0, fresh_spans reads (history es) n r.0 legal r.1 r.2.0 ∙ ap (spans_of (stamp_of (history es) n)) staged.noted)
 
-  may_come : IsIn Staged here n → AllByRecursion (IsIn Published here) old → MayFollow (reading_of reads (config_of reads (history es)) (Replace n old 0)) (state_of reads (history es)) entry
+  may_come : IsIn Staged here n → AllByRecursion (IsIn Published here) old → MayFollow (reading_of reads (config_of reads (history es)) (Replace n old upto)) (state_of reads (history es)) entry
   may_come h all = (
     late,
-    subst (λ (c : Option Config). MayCome (reading_of reads c (Replace n old 0)) c (state_of reads (history es)) moment (Replace n old 0)) (sym begun_es.is) ((is_fresh h, (any, apart, all)), omega arith),
+    subst (λ (c : Option Config). MayCome (reading_of reads c (Replace n old upto)) c (state_of reads (history es)) moment (Replace n old upto)) (sym begun_es.is) ((is_fresh h, (any, apart, all)), known),
   )
 
   -- A REPLACE THAT IS REFUSED: the row isn't staged, or one of the others isn't published
@@ -279,7 +336,7 @@ module _ (es : List Entry) (moment n : ℕ) (old : List ℕ) (facts : RowFacts) 
       by (inr other) each = inl other
       by (inl h) (inr one) = inr one
       by (inl h) (inl all) =
-          absurd (no_ok refusal (answer_behind es entry) e ((answered (reading_of reads (config_of reads (history es)) (Replace n old 0)) (state_of reads (history es)) entry tt).1 (may_come h all)))
+          absurd (no_ok refusal (answer_behind es entry) e ((answered (reading_of reads (config_of reads (history es)) (Replace n old upto)) (state_of reads (history es)) entry tt).1 (may_come h all)))
 
 -- ---- the numbers of the rows that are chosen are apart
 
@@ -288,7 +345,7 @@ or_false false false e f = refl
 or_false false true e f = f
 or_false true b e f = e
 
-or_parts : (a b : Bool) → (a || b) ≡ false → (a ≡ false) × (b ≡ false)
+pub or_parts : (a b : Bool) → (a || b) ≡ false → (a ≡ false) × (b ≡ false)
 or_parts false b e = (refl, e)
 or_parts true b e = absurd (false_is_true (sym e))
 

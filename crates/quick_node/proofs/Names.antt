@@ -12,7 +12,7 @@ use Rattle.root_search.specs.Steps.{Request, no_request, opened, planned, Plan, 
 use Rattle.upkeep_run.specs.declared.work.Aim.TheVariants.{Deleting, Merging}
 use Rattle.node_run.specs.Node.{Node, Line, At, Assign, StepIndexer, RestartIndexer, RestartClient, StepMerger, RestartMerger, StepDeleter, RestartDeleter, StepCollector, RestartCollector, RestartNode, Open, StepClient, Outcome}
 use Rattle.node_run.specs.Turns as turning
-use Rattle.node_run.specs.Turns.{Turn, Turned, client_named, with_client, assign_at, indexer_at, indexer_turn_by, client_turn_by, collector_turn_by, searching_luck, open_by, restart_by, full_turn, or_quiet, turn_by, worker_turn_by, with_deleter, with_merger}
+use Rattle.node_run.specs.Turns.{Turn, client_named, with_client, assign_at, indexer_at, indexer_turn_by, client_turn_by, collector_turn_by, searching_luck, open_by, restart_by, full_turn, or_quiet, turn_by, worker_turn_by, with_deleter, with_merger}
 use Rattle.node_run.specs.Standing.{is_known}
 use Rattle.node_run.proofs.Names.{named_name, kept_by_request}
 use Rattle.node_run.proofs.Parts.{searched_name}

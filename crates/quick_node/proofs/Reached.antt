@@ -4,24 +4,28 @@ use Rattle.std.proofs.lemmas.List.{append-nil, length-append, take_all, take_at,
 use Rattle.std.specs.FinMap.{get}
 use Rattle.std.specs.List.{AllByRecursion}
 use Rattle.std.specs.Prelude.{Option, Some, None}
+use Rattle.delete_tasks.specs.Ledger.{MayAdd, last_of}
 use Rattle.delete_tasks.specs.Removes.{DeleteTask}
+use Rattle.doc_value.specs.declared.facts.TimeRange.{TimeRange}
 use Rattle.index_config.specs.declared.config.IndexConfig.{IndexConfig}
 use Rattle.meta_journal.specs.Places.{meta_key, split_key}
 use Rattle.meta_journal.specs.declared.entry.Act.{Act}
 use Rattle.meta_journal.specs.declared.entry.Act.TheVariants.{Fence, Create, Stage, Publish, Replace, Raise, Task, MarkStaged, Remove, Retire}
 use Rattle.meta_journal.specs.declared.entry.Entry.{Entry}
+use Rattle.meta_store.proofs.Current.{contents_kept, opstamps_agree, tasks_agree}
 use Rattle.meta_store.proofs.GivenUp.{GivenUp-more}
-use Rattle.meta_store.proofs.Numbers.{each_found, history-snoc, row_below, staged_le}
-use Rattle.meta_store.proofs.RowLists.{AllOf-front, AllOf-both}
+use Rattle.meta_store.proofs.Numbers.{each_found, history-snoc, row_below, staged_le, task_next}
+use Rattle.meta_store.proofs.RowLists.{AllOf-front, AllOf-both, AllOf-weaker}
 use Rattle.meta_store.proofs.Sound.{sound}
 use Rattle.meta_store.proofs.Within.{placed}
-use Rattle.meta_store.specs.History.{History, history}
+use Rattle.meta_store.specs.History.{History, history, last_opstamp}
 use Rattle.meta_store.specs.History.History.{◌▸◌}
 use Rattle.meta_store.specs.Ledgers.{ledger}
-use Rattle.meta_store.specs.Readings.{config_of}
+use Rattle.meta_store.specs.Readings.{config_of, query_said}
 use Rattle.meta_store.specs.Numbers.{Comes, IsGivenUp, IsPlaced}
 use Rattle.meta_store.specs.Rows.{rows}
 use Rattle.meta_store.specs.State.{Legal}
+use Rattle.meta_store.specs.Tasks.{task_of}
 use Rattle.object_store.specs.Store.{State, HasLanded}
 use Rattle.source_log.specs.Log.{Log, IsLog}
 use Rattle.split_states.specs.Rows.{published, change, row_at}
@@ -32,7 +36,7 @@ use Rattle.index_world.specs.Configuration.{configuration, config_or, index_of}
 use Rattle.index_world.specs.Core.{Core, Late, late_dead, late_entry, late_file, with_unread, journal_of, file_at}
 use Rattle.index_world.specs.Held.{KeepsHeld, Enters, AfterLanding}
 use Rattle.index_world.specs.Index.{AreRowsKept, HasFile, IsBelowEnd, IsIndexOf, IsLateEntry, IsRowKept, IsRowSound, IsTaken, MayLand, max_entries}
-use Rattle.index_world.specs.Seen.{contents}
+use Rattle.index_world.specs.Seen.{accepted_records, contents, meaning}
 use Rattle.index_world.specs.Standing.{IsCalled, late_object}
 use Rattle.index_world.specs.World.{IsWorld}
 use Rattle.index_world.proofs.Asking.{Begun, begun_history}
@@ -42,7 +46,7 @@ use Rattle.index_world.proofs.Journals.{once, one-journal}
 use Rattle.index_world.proofs.Numbers.{revision_is}
 use Rattle.index_world.proofs.StoreChanges.{All-each, last_within}
 use Rattle.index_world.proofs.StoreKeys.{meta_begins, meta_key-injective, split_key-injective, split_outside}
-use Rattle.index_world.proofs.Rows.{rows_act}
+use Rattle.index_world.proofs.Rows.{rows_act, sound_with}
 use Rattle.index_world.proofs.Taken.{legal_unread, stands_shown}
 use Rattle.node_run.specs.declared.drive.DriveNode.{DriveNode}
 use Rattle.node_run.specs.Node.{Node, Line, Outcome}
@@ -73,6 +77,28 @@ before_change P n f (row ∷ list) back all = by (row.number == n) (λ more. bef
     by true on a = (back row a.0, a.1)
     by false on a = (a.0, on a.1)
 
+-- a task that is added changes what no row holds
+task_before : (kept : State) (config : IndexConfig) (log : Log) (h : History) (moment opstamp : ℕ) (text : List ℕ) (fields : List (List ℕ)) (times : TimeRange) → Legal reads h → Comes reads h moment (Task opstamp text fields times) →
+    AreSound kept config log (h ▸ record { moment = moment; act = Task opstamp text fields times }) → AreSound kept config log h
+task_before kept config log h moment opstamp text fields times legal may all =
+    AllOf-weaker (λ (row : Row). (contents config (tasks ++ task ∷ []) row log ≡ contents config tasks row log) × (row.state ≡ Published → IsRowSound kept config (tasks ++ task ∷ []) log row))
+    (λ (row : Row). row.state ≡ Published → IsRowSound kept config tasks log row) (rows h)
+    (λ row b e. sound_with kept config log (tasks ++ task ∷ []) tasks row row refl refl refl (sym b.0) (b.1 e))
+    (AllOf-both (λ (row : Row). contents config (tasks ++ task ∷ []) row log ≡ contents config tasks row log) (λ (row : Row). row.state ≡ Published → IsRowSound kept config (tasks ++ task ∷ []) log row) (rows h)
+    (contents_kept (meaning config) reads h task legal follows (accepted_records config log)) all)
+  where
+    task : DeleteTask
+    task = task_of opstamp (query_said reads (config_of reads h) (Task opstamp text fields times)) times
+
+    tasks : List DeleteTask
+    tasks = (ledger reads h).tasks
+
+    last : last_of tasks ≡ last_opstamp h
+    last = ap last_of (tasks_agree reads h) ∙ opstamps_agree reads h
+
+    follows : MayAdd task tasks
+    follows = task_next reads h moment opstamp text fields times may ∙ ap (λ k. k + 1) (sym last)
+
 own_before : (kept : State) (config : IndexConfig) (log : Log) (h : History) (moment : ℕ) (act : Act) → IsOwn act → Legal reads h → Comes reads h moment act → AreSound kept config log (h ▸ record { moment = moment; act = act }) →
     AreSound kept config log h
 own_before kept config log h moment Fence own legal may all = absurd own
@@ -83,7 +109,7 @@ own_before kept config log h moment (Publish n) own legal may all =
     (λ row k e. let s = k refl in record { file = s.file; facts = s.facts; split = s.split }) all
 own_before kept config log h moment (Replace new old upto) own legal may all = absurd own
 own_before kept config log h moment (Raise number upto) own legal may all = absurd own
-own_before kept config log h moment (Task opstamp text fields times) own legal may all = absurd own
+own_before kept config log h moment (Task opstamp text fields times) own legal may all = task_before kept config log h moment opstamp text fields times legal may all
 own_before kept config log h moment (MarkStaged numbers) own legal may all = marks_leave (λ row. IsRowSound kept config (ledger reads h).tasks log row) h moment legal numbers may all
 own_before kept config log h moment (Remove numbers) own legal may all = removes_leave (λ row. IsRowSound kept config (ledger reads h).tasks log row) h moment legal numbers may all
 own_before kept config log h moment (Retire numbers) own legal may all = absurd own

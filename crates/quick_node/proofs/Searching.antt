@@ -1,31 +1,47 @@
--- The headline's sentence on searches follows from the node: whatever lands and fails, each reply with hits is the answer to
--- what its client opened last, over one revision that is no older than its client's front and the journal at entry.
-use Rattle.std.proofs.Common.{◌≡◌, ℕ, ◌≤◌, ◌+◌, List, [], ◌∷◌, ◌++◌, refl, sym, ap, ◌∙◌, subst, Bool, true, false, length, arith, take, map, append_assoc}
+-- The headline's sentences on searches and deletes follow from the node: whatever lands and fails, each reply with hits is the answer to
+-- what its client opened last, over one revision that is no older than its client's front and the journal at entry, and each reply that a
+-- delete was done names the task that its line added.
+use Rattle.std.proofs.Common.{◌≡◌, ℕ, ◌<◌, ◌≤◌, ◌+◌, List, [], ◌∷◌, ◌++◌, refl, sym, ap, ◌∙◌, subst, Bool, true, false, length, arith, take, map, append_assoc}
 use Rattle.std.proofs.lemmas.List.{length-append, take-append-le, take_all}
 use Rattle.std.proofs.lemmas.Slice.Eq.{bytes_eq-Decides}
-use Rattle.std.specs.Prelude.{Option, Some, None, Result, Ok, Err, ⊤, if◌then◌else◌, bytes_eq}
+use Rattle.std.specs.Prelude.{Option, Some, None, Result, Ok, Err, ⊤, if◌then◌else◌, bytes_eq, nat_lt}
+use Rattle.agg_model.specs.Answers.{most_buckets}
+use Rattle.agg_nested.specs.Answers.{all_buckets, nested_answer, told}
+use Rattle.agg_nested.specs.declared.answer.NestedAnswer.{NestedAnswer}
+use Rattle.doc_tallies.specs.Picked.{docs_of}
+use Rattle.doc_value.specs.declared.schema.Schema.{Schema}
+use Rattle.split_bundle.specs.declared.placed.Placed.{Placed}
 use Rattle.meta_journal.specs.declared.entry.Entry.{Entry}
-use Rattle.meta_store.specs.History.{history}
+use Rattle.meta_store.proofs.Numbers.{history-snoc}
+use Rattle.meta_store.specs.History.{history, last_opstamp}
 use Rattle.meta_store.specs.Ledgers.{ledger}
+use Rattle.meta_store.specs.State.{Legal}
 use Rattle.index_world.specs.Config.{reads}
 use Rattle.source_log.specs.Log.{Log}
-use Rattle.index_world.specs.Calls.{Trouble, faulted, no_memory, Unread, not_read, asked_and_looked, loaded}
+use Rattle.index_world.specs.Calls.{Trouble, faulted, no_memory, Unmade, troubled, Unread, not_read, asked_and_looked, entry_of, loaded}
 use Rattle.index_world.specs.Calls as calls
-use Rattle.index_world.specs.Configuration.{configuration, config_or}
+use Rattle.index_world.specs.Configuration.{configuration, config_or, index_of}
 use Rattle.index_world.specs.Core.{Core}
-use Rattle.index_world.specs.Seen.{visible}
+use Rattle.index_world.specs.Gate.{task_act, task_call}
+use Rattle.index_world.specs.Seen.{visible, visible_at}
+use Rattle.index_world.proofs.Asking.{Begun, begun_history}
+use Rattle.index_world.proofs.Numbers.{revision_is}
 use Rattle.indexing_run.specs.Outcomes.{IndexerOutcome}
 use Rattle.indexing_run.specs.Places.{Place, idle, reading, staged, uploaded, Indexer}
 use Rattle.indexing_run.specs.Steps.{step_indexer}
-use Rattle.root_search.specs.Answer.{answer}
-use Rattle.root_search.specs.Requests.{asked_of}
-use Rattle.root_search.specs.Steps.{Client, Request, no_request, opened, planned, Plan, Luck, Searched, fault_refusal, plan_by, reply_with, trouble_replied, refused_over, fetch_by, fetched_each, config_in, next_step, step_request, or_short, step_client, answer_of, without_request}
+use Rattle.root_search.specs.Answer.{answer, matching, printed, shown}
+use Rattle.root_search.specs.Requests.{ask_of, asked_of}
+use Rattle.root_search.specs.Steps.{Client, Request, no_request, opened, planned, Plan, Luck, Searched, delete_by, fault_refusal, opened_by, plan_by, plan_given, reply_with, state_refusal, trouble_replied, refused_over, fetch_by, fetched_each, config_at, config_in, next_step, step_request, or_short, step_client, answer_of, without_request}
 use Rattle.root_search.specs.declared.outcome.SearchStep.{SearchStep}
 use Rattle.root_search.specs.declared.outcome.SearchStep.TheVariants.{Idle, Planned, Fetched, Replied}
-use Rattle.search_api.specs.Resolved.{Search}
+use Rattle.root_search.proofs.Steps.{as_asked, delete_core}
+use Rattle.search_api.specs.Resolved.{Asked, IsDelete, IsSearch, Search}
 use Rattle.search_api.specs.declared.reply.Refusal.{Refusal}
+use Rattle.search_api.specs.declared.reply.Refusal.TheVariants.{TooManyBuckets}
+use Rattle.search_api.specs.declared.reply.Reply.{Reply}
 use Rattle.search_api.specs.declared.reply.Said.{Said}
 use Rattle.search_api.specs.declared.reply.Said.TheVariants.{Found, Deleted, Refused}
+use Rattle.search_api.specs.declared.resolved.Deletion.{Deletion}
 use Rattle.search_api.specs.declared.unanswered.Unanswered.{Unanswered}
 use Rattle.search_api.specs.declared.unanswered.Unanswered.TheVariants as reasons
 use Rattle.split_collector.specs.Outcomes.{Outcome as CollectorOutcome}
@@ -37,12 +53,17 @@ use Rattle.upkeep_run.specs.declared.work.Aim.{Aim}
 use Rattle.upkeep_run.specs.declared.work.Aim.TheVariants.{Deleting, Merging}
 use Rattle.node_run.specs.Node.{Node, Line, At, Assign, StepIndexer, RestartIndexer, RestartClient, StepMerger, RestartMerger, StepDeleter, RestartDeleter, StepCollector, RestartCollector, RestartNode, Open, StepClient, Outcome, client_said}
 use Rattle.node_run.specs.Turns as node_turns
-use Rattle.node_run.specs.Turns.{full_turn, turn_with, turn_by, or_quiet, quiet, Turn, Turns, Turned, client_named, with_client, keep_client, said_by_indexer, indexer_stepped, indexer_turn_by, said_by_client, client_turn_by, client_stepped, collecting_luck, said_by_collector, collector_turn_by, assign_at, open_by, restart_by, indexer_at, indexing_luck, searching_luck, working_luck, said_by_worker, worker_stepped, worker_turn_by, with_deleter, with_merger}
-use Rattle.node_run.proofs.CallMoves.{Grows, same_grows, asked_and_looked_moves, each_moves, loaded_moves}
+use Rattle.node_run.specs.Turns.{full_turn, turn_with, turn_by, or_quiet, quiet, Turn, Turns, Turned, client_named, with_client, keep_client, said_by_indexer, indexer_stepped, indexer_turn_by, said_by_client, client_turn_by, collecting_luck, said_by_collector, collector_turn_by, assign_at, open_by, restart_by, indexer_at, indexing_luck, searching_luck, working_luck, said_by_worker, worker_stepped, worker_turn_by, with_deleter, with_merger}
+use Rattle.node_run.proofs.CallMoves.{Grows, same_grows, appended_moves, asked_and_looked_moves, each_moves, loaded_moves}
 use Rattle.node_run.proofs.CollectorMoves.{collector_moves}
 use Rattle.node_run.proofs.WorkerMoves.{worker_moves}
-use Rattle.node_run.proofs.Moving.{plan_same, indexer_moves, client_moves, turns_later}
-use Rattle.quick_node.specs.Serve.{IsPrefixOf, Known, known_of, after_outcome, config_then, IfFound, AnswersOne, AnswersFrom}
+use Rattle.node_run.proofs.Moving.{indexer_moves, client_moves, turns_later}
+use Rattle.quick_node.specs.Deletes.{Deletes, DeletesFrom, KeepsFront, Replies}
+use Rattle.quick_node.specs.Fronts.{Known, known_of, after_outcome, config_then}
+use Rattle.quick_node.specs.Serve.{IsPrefixOf, IfFound, AnswersOne, AnswersFrom}
+use Rattle.quick_node.proofs.EntryRows.{legal_before}
+use Rattle.quick_node.proofs.MergeCalls.{Appends, appended_says}
+use Rattle.quick_node.proofs.Onces.{configured_on}
 
 same-true : (a b : List ℕ) → bytes_eq a b ≡ true → a ≡ b
 same-true a b = (bytes_eq-Decides a b).0
@@ -65,7 +86,7 @@ abbrev pub OnRequest : List Entry → ℕ → Known → ℕ → ℕ → Request 
 OnRequest exit least known front len no_request = Unit {0}
 OnRequest exit least known front len (opened text) = known.text ≡ text
 OnRequest exit least known front len (planned plan) =
-    (asked_of (config_then plan.revision exit) known.text ≡ Ok plan.search) × (least ≤ plan.revision) × (front ≤ plan.revision) × (plan.revision ≤ len)
+    (asked_of (config_then plan.revision exit) known.text ≡ Ok (IsSearch plan.search)) × (least ≤ plan.revision) × (front ≤ plan.revision) × (plan.revision ≤ len)
 
 pub record Agrees (exit : List Entry) (least len : ℕ) (name : List ℕ) (known : Known) (client : Client) : Type 0 where
   pub known_name : known.name ≡ name
@@ -129,58 +150,92 @@ client_named-with q c (other ∷ clients) = by (bytes_eq other.name c.name) refl
 longer : (a b : Core) → Grows a b → length a.history ≤ length b.history
 longer a b g = let e : length b.history ≡ length a.history + length g.0 = ap length g.1 ∙ length-append a.history g.0 in omega (arith, e)
 
+-- The journal at exit is a legal one, and this core has taken in an entry at least, and as many as stood at entry.
+record Ready (exit : List Entry) (least : ℕ) (core : Core) : Type 0 where
+  legal : Legal reads (history exit)
+  low : least ≤ length core.history
+  some : 0 < length core.history
+
 pub prefix_on : (a b c : List Entry) → IsPrefixOf a b → IsPrefixOf b c → IsPrefixOf a c
 prefix_on a b c g h = (g.0 ++ h.0, h.1 ∙ ap (λ l. l ++ h.0) g.1 ∙ append_assoc a g.0 h.0)
 
 -- ---- one step of a client
 
--- what a client's step says is answered, and what it leaves agrees with what is known behind its outcome
-record Went (exit : List Entry) (log : Log) (least : ℕ) (knowns : List Known) (name : List ℕ) (s : SearchStep) (client : Client) (core : Core) : Type 0 where
+-- What a client's step says is answered, and a delete was done behind so many entries; what it leaves agrees with what is known behind its outcome.
+record Went (exit : List Entry) (log : Log) (least from : ℕ) (knowns : List Known) (name : List ℕ) (s : SearchStep) (client : Client) (core : Core) : Type 0 where
   agrees : Agrees exit least (length core.history) name (known_of name (after_outcome knowns (StepClient name) (client_said name s))) client
   answers : AnswersOne exit log least knowns (StepClient name) (client_said name s)
+  deletes : Deletes exit from (length core.history) knowns (StepClient name) (client_said name s)
 
 -- the first known is found under its name
-known_first : (name : List ℕ) (known : Known) (knowns : List Known) → known.name ≡ name → known_of name (known ∷ knowns) ≡ known
+pub known_first : (name : List ℕ) (known : Known) (knowns : List Known) → known.name ≡ name → known_of name (known ∷ knowns) ≡ known
 known_first name known knowns e = rw (e, same-refl name)
 
-module _ (exit : List Entry) (log : Log) (least : ℕ) (knowns : List Known) (name : List ℕ) where
-  abbrev StepWent : Searched → Type 0
-  StepWent step = (s : SearchStep) → step.outcome ≡ Some s → Went exit log least knowns name s step.client step.core
+-- an answer is no delete
+module _ (entries : List Entry) (least next : ℕ) (known : Known) (reply : Reply) (keeps : KeepsFront next known reply) where
+  buckets_told : (b : Bool) (many count : ℕ) (lines : List (List ℕ)) (results : List NestedAnswer) →
+      Replies entries least next known reply (if b then Refused (TooManyBuckets count) else Found many lines results)
+  buckets_told true many count lines results = keeps
+  buckets_told false many count lines results = tt
 
-  said_went : (s : SearchStep) (client : Client) (core : Core) → Went exit log least knowns name s client core →
+  answer_told : (s : Schema) (search : Search) (documents : List Placed) → Replies entries least next known reply (answer s search documents)
+  answer_told s search documents =
+      let found = matching s search documents in
+      let count = all_buckets search.aggs (docs_of found) in
+      buckets_told (nat_lt most_buckets count) (length found) (told count) (printed s (shown search found)) (map (nested_answer (docs_of found)) search.aggs)
+
+module _ (exit : List Entry) (log : Log) (least from : ℕ) (knowns : List Known) (name : List ℕ) where
+  abbrev StepWent : Searched → Type 0
+  StepWent step = (s : SearchStep) → step.outcome ≡ Some s → Went exit log least from knowns name s step.client step.core
+
+  said_went : (s : SearchStep) (client : Client) (core : Core) → Went exit log least from knowns name s client core →
       StepWent (record { outcome = Some s; client = client; core = core })
-  said_went s client core w s' e = subst (λ x. Went exit log least knowns name x client core) (some_same s s' e) w
+  said_went s client core w s' e = subst (λ x. Went exit log least from knowns name x client core) (some_same s s' e) w
 
   unsaid_went : (client : Client) (core : Core) → StepWent (record { outcome = None; client = client; core = core })
   unsaid_went client core s e = absurd (none_is_some s None refl e)
 
+  abbrev reply_of : ℕ → Said → Client → Reply
+  reply_of revision said client = record { client = client.name; revision = revision; said = said }
+
   -- a reply at this revision: the front is that revision, and no request is left
   reply_went : (revision : ℕ) (said : Said) (client : Client) (core : Core) → Agrees exit least (length core.history) name (known_of name knowns) client →
-      revision ≤ length core.history →
-      AnswersOne exit log least knowns (StepClient name) (client_said name (Replied (record { client = client.name; revision = revision; said = said }))) →
-      StepWent (reply_with revision said client core)
-  reply_went revision said client core a h answered =
-      said_went (Replied (record { client = client.name; revision = revision; said = said })) (record client { front = revision; request = no_request }) core
+      revision ≤ length core.history → AnswersOne exit log least knowns (StepClient name) (client_said name (Replied (reply_of revision said client))) →
+      Replies exit from (length core.history) (known_of name knowns) (reply_of revision said client) said → StepWent (reply_with revision said client core)
+  reply_went revision said client core a h answered replied =
+      said_went (Replied (reply_of revision said client)) (record client { front = revision; request = no_request }) core
       (record {
         agrees = subst (λ k. Agrees exit least (length core.history) name k (record client { front = revision; request = no_request }))
-            (sym (known_first name (record (known_of name knowns) { front = revision }) knowns a.known_name))
+            (sym (known_first name (record (known_of name knowns) { text = []; front = revision }) knowns a.known_name))
             (record { known_name = a.known_name; client_name = a.client_name; front = refl; bound = h; request = tt });
         answers = answered;
+        deletes = (name, refl, replied);
       })
 
+  -- a reply from the client's front on
+  keeps_front : (revision : ℕ) (said : Said) (client : Client) (core : Core) → Agrees exit least (length core.history) name (known_of name knowns) client →
+      client.front ≤ revision → revision ≤ length core.history → KeepsFront (length core.history) (known_of name knowns) (reply_of revision said client)
+  keeps_front revision said client core a low high =
+      record { client = a.client_name ∙ sym a.known_name; front = subst (λ f. f ≤ revision) (sym a.front) low; ends = high }
+
+  refusal_went : (revision : ℕ) (refusal : Refusal) (client : Client) (core : Core) → Agrees exit least (length core.history) name (known_of name knowns) client →
+      client.front ≤ revision → revision ≤ length core.history → StepWent (reply_with revision (Refused refusal) client core)
+  refusal_went revision refusal client core a low high =
+      reply_went revision (Refused refusal) client core a high tt (keeps_front revision (Refused refusal) client core a low high)
+
   trouble_went : (revision : ℕ) (t : Trouble) (client : Client) (core : Core) → Agrees exit least (length core.history) name (known_of name knowns) client →
-      revision ≤ length core.history → StepWent (trouble_replied revision t client core)
-  trouble_went revision (faulted fault) client core a h = reply_went revision (Refused (fault_refusal fault)) client core a h tt
-  trouble_went revision no_memory client core a h = unsaid_went (without_request client) core
+      client.front ≤ revision → revision ≤ length core.history → StepWent (trouble_replied revision t client core)
+  trouble_went revision (faulted fault) client core a low high = refusal_went revision (fault_refusal fault) client core a low high
+  trouble_went revision no_memory client core a low high = unsaid_went (without_request client) core
 
   refused_went : (revision : ℕ) (refusal : Refusal) (t : Trouble) (client : Client) (core : Core) → Agrees exit least (length core.history) name (known_of name knowns) client →
-      revision ≤ length core.history → StepWent (refused_over revision refusal t client core)
-  refused_went revision refusal (faulted fault) client core a h = reply_went revision (Refused refusal) client core a h tt
-  refused_went revision refusal no_memory client core a h = unsaid_went (without_request client) core
+      client.front ≤ revision → revision ≤ length core.history → StepWent (refused_over revision refusal t client core)
+  refused_went revision refusal (faulted fault) client core a low high = refusal_went revision refusal client core a low high
+  refused_went revision refusal no_memory client core a low high = unsaid_went (without_request client) core
 
   plan_went : (r : Result ⊤ Trouble) (asked : Result Search Unanswered) (text : List ℕ) (client : Client) (core : Core) →
       Agrees exit least (length core.history) name (known_of name knowns) client → (known_of name knowns).text ≡ text →
-      asked_of (config_then (length core.history) exit) text ≡ asked → least ≤ length core.history → StepWent (plan_by r asked client core)
+      asked_of (config_then (length core.history) exit) text ≡ as_asked asked → least ≤ length core.history → StepWent (plan_by r asked client core)
   plan_went (Ok done) (Ok search) text client core a t w l =
       let step = plan_by (Ok done) (Ok search) client core in
       said_went (Planned _ _) step.client core
@@ -193,11 +248,12 @@ module _ (exit : List Entry) (log : Log) (least : ℕ) (knowns : List Known) (na
           request = (ap (asked_of (config_then (length core.history) exit)) t ∙ w, l, a.bound, omega arith);
         };
         answers = tt;
+        deletes = tt;
       })
-  plan_went (Ok done) (Err (reasons.Refused refusal)) text client core a t w l = reply_went (length core.history) (Refused refusal) client core a (omega arith) tt
+  plan_went (Ok done) (Err (reasons.Refused refusal)) text client core a t w l = refusal_went (length core.history) refusal client core a a.bound (omega arith)
   plan_went (Ok done) (Err (reasons.Memory e)) text client core a t w l = unsaid_went (without_request client) core
-  plan_went (Err trouble) (Ok search) text client core a t w l = trouble_went client.front trouble client core a a.bound
-  plan_went (Err trouble) (Err (reasons.Refused refusal)) text client core a t w l = refused_went client.front refusal trouble client core a a.bound
+  plan_went (Err trouble) (Ok search) text client core a t w l = trouble_went client.front trouble client core a (omega arith) a.bound
+  plan_went (Err trouble) (Err (reasons.Refused refusal)) text client core a t w l = refused_went client.front refusal trouble client core a (omega arith) a.bound
   plan_went (Err trouble) (Err (reasons.Memory e)) text client core a t w l = unsaid_went (without_request client) core
 
   fetch_went : (r : Result ⊤ Trouble) (plan : Plan) (number : ℕ) (more : List ℕ) (client : Client) (core : Core) →
@@ -209,12 +265,13 @@ module _ (exit : List Entry) (log : Log) (least : ℕ) (knowns : List Known) (na
       (record {
         agrees = record { known_name = a.known_name; client_name = a.client_name; front = a.front; bound = a.bound; request = p };
         answers = tt;
+        deletes = tt;
       })
-  fetch_went (Err trouble) plan number more client core a p = trouble_went plan.revision trouble client core a p.3
+  fetch_went (Err trouble) plan number more client core a p = trouble_went plan.revision trouble client core a p.2 p.3
 
   if_found : (said : Said) (fact : Type 0) → fact → IfFound said fact
   if_found (Found count hits aggregations) fact f = f
-  if_found (Deleted opstamp) fact f = f
+  if_found (Deleted opstamp) fact f = tt
   if_found (Refused refusal) fact f = tt
 
   -- the answer over the planned revision, seen from any later history
@@ -240,7 +297,10 @@ module _ (exit : List Entry) (log : Log) (least : ℕ) (knowns : List Known) (na
       Agrees exit least (length core.history) name (known_of name knowns) client →
       OnRequest exit least (known_of name knowns) client.front (length core.history) (planned plan) → IsPrefixOf core.history exit →
       StepWent (next_step luck log plan unfetched client core)
-  next_went [] luck plan client core a r p = reply_went plan.revision (answer_of plan log core) client core a r.3 (answered plan client core a r p)
+  next_went [] luck plan client core a r p =
+      reply_went plan.revision (answer_of plan log core) client core a r.3 (answered plan client core a r p)
+      (answer_told exit from (length core.history) (known_of name knowns) (reply_of plan.revision (answer_of plan log core) client)
+      (keeps_front plan.revision (answer_of plan log core) client core a r.2 r.3) (config_at plan.revision core).schema plan.search (visible_at plan.revision core.history log))
   next_went (number ∷ more) luck plan client core a r p =
       let given = fetched_each plan.grace luck.world luck.more core in
       let h : length core.history ≤ length given.core.history = longer core given.core (each_moves plan.grace luck.more luck.world core).later.grows in
@@ -248,26 +308,90 @@ module _ (exit : List Entry) (log : Log) (least : ℕ) (knowns : List Known) (na
       (agrees-more exit least (length core.history) (length given.core.history) name (known_of name knowns) client h a)
       (r.0, r.1, r.2, omega (arith, r.3, h))
 
-  -- the configuration that a plan sees is the one of its revision
-  seen_then : (core : Core) → IsPrefixOf core.history exit → config_then (length core.history) exit ≡ config_in core
-  seen_then core p =
-      ap (λ es. config_or (configuration es))
-      (ap (take (length core.history)) p.1 ∙ take-append-le (length core.history) core.history p.0 (omega arith) ∙ take_all (length core.history) core.history (omega arith))
+  -- the configuration that a text is read under is the one of each later revision
+  seen_then : (core : Core) → Ready exit least core → IsPrefixOf core.history exit → (revision : ℕ) → length core.history ≤ revision → config_then revision exit ≡ config_in core
+  seen_then core ready p revision le =
+      let legal : Legal reads (history core.history) = legal_before core.history p.0 (subst (λ (es : List Entry). Legal reads (history es)) p.1 ready.legal) in
+      let b : Begun (history core.history) = begun_history (history core.history) legal (let r = revision_is core.history in let some = ready.some in omega (arith, r, some)) in
+      let is : configuration core.history ≡ Some b.config.settings.index = ap index_of b.is in
+      ap config_or (configured_on core.history exit p ready.legal b.config.settings.index is revision le) ∙ sym (ap config_or is)
+
+  -- all that a core took in is a front of the journal at exit
+  front_of : (core : Core) → IsPrefixOf core.history exit → take (length core.history) exit ≡ core.history
+  front_of core p =
+      ap (take (length core.history)) p.1 ∙ take-append-le (length core.history) core.history p.0 (omega arith) ∙ take_all (length core.history) core.history (omega arith)
+
+  -- a search that was read, or a refusal
+  plans_went : (asked : Result Search Unanswered) (text : List ℕ) (luck : Luck) (client : Client) (core : Core) → asked_of (config_in core) text ≡ as_asked asked →
+      Agrees exit least (length core.history) name (known_of name knowns) client → (known_of name knowns).text ≡ text → Ready exit least core → IsPrefixOf core.history exit →
+      StepWent (plan_given asked client (asked_and_looked luck.world core))
+  plans_went asked text luck client core word a t ready p =
+      let given = asked_and_looked luck.world core in
+      let h : length core.history ≤ length given.core.history = longer core given.core (asked_and_looked_moves luck.world core).later.grows in
+      plan_went given.answer asked text client given.core (agrees-more exit least (length core.history) (length given.core.history) name (known_of name knowns) client h a) t
+      (ap (λ config. asked_of config text) (seen_then core ready p (length given.core.history) h) ∙ word) (let low = ready.low in omega (arith, low, h))
+
+  -- a delete that was read: its task is the last entry, or there is none
+  delete_went : (deletion : Deletion) (text : List ℕ) (r : Result ⊤ Unmade) (client : Client) (core after : Core) → Appends (task_act (ask_of deletion)) core r after →
+      Agrees exit least (length core.history) name (known_of name knowns) client → (known_of name knowns).text ≡ text → from ≤ length core.history → length core.history ≤ length after.history →
+      asked_of (config_then (length after.history) exit) text ≡ Ok (IsDelete deletion) → IsPrefixOf after.history exit → StepWent (delete_by r client after)
+  delete_went deletion text (Ok done) client core after made a t low up word p =
+      reply_went (length after.history) (Deleted (last_opstamp (history after.history))) client after
+      (agrees-more exit least (length core.history) (length after.history) name (known_of name knowns) client up a) (omega arith) tt
+      (record {
+        client = a.client_name ∙ sym a.known_name;
+        deletion = deletion;
+        asked = ap (asked_of (config_then (length after.history) exit)) t ∙ word;
+        earlier = made.0.history;
+        moment = made.0.moment;
+        is = front_of after p ∙ made.2;
+        stamp = ap (λ (es : List Entry). last_opstamp (history es)) made.2 ∙ ap last_opstamp (history-snoc made.0.history task);
+        front = seen;
+        begins = added;
+        ends = omega arith;
+      })
+    where
+      task : Entry
+      task = entry_of (task_act (ask_of deletion) made.0) made.0
+
+      begun : length core.history ≤ length made.0.history
+      begun = longer core made.0 made.1
+
+      long : length after.history ≡ length made.0.history + 1
+      long = ap length made.2 ∙ length-append made.0.history (task ∷ [])
+
+      seen : (known_of name knowns).front < length after.history
+      seen = let same = a.front in let bound = a.bound in omega (arith, same, bound, begun, long)
+
+      added : from < length after.history
+      added = omega (arith, low, begun, long)
+  delete_went deletion text (Err (calls.refused refusal)) client core after made a t low up word p =
+      refusal_went client.front (state_refusal refusal) client after (agrees-more exit least (length core.history) (length after.history) name (known_of name knowns) client up a) (omega arith)
+      (let bound = a.bound in omega (arith, bound, up))
+  delete_went deletion text (Err (troubled trouble)) client core after made a t low up word p =
+      trouble_went client.front trouble client after (agrees-more exit least (length core.history) (length after.history) name (known_of name knowns) client up a) (omega arith)
+      (let bound = a.bound in omega (arith, bound, up))
+
+  -- a text that was opened, by what it asks
+  opened_went : (asked : Result Asked Unanswered) (text : List ℕ) (luck : Luck) (client : Client) (core : Core) → asked_of (config_in core) text ≡ asked →
+      Agrees exit least (length core.history) name (known_of name knowns) client → (known_of name knowns).text ≡ text → from ≤ length core.history → Ready exit least core → IsPrefixOf core.history exit →
+      IsPrefixOf (opened_by asked luck.world client core).core.history exit → StepWent (opened_by asked luck.world client core)
+  opened_went (Ok (IsSearch search)) text luck client core word a t low ready p q = plans_went (Ok search) text luck client core word a t ready p
+  opened_went (Ok (IsDelete deletion)) text luck client core word a t low ready p q =
+      let given = task_call (ask_of deletion) luck.world core in
+      let up : length core.history ≤ length given.core.history = longer core given.core (appended_moves luck.world (task_act (ask_of deletion)) core).later.grows in
+      delete_went deletion text given.answer client core given.core (appended_says (task_act (ask_of deletion)) luck.world core) a t low up
+      (ap (λ config. asked_of config text) (seen_then core ready p (length given.core.history) up) ∙ word)
+      (subst (λ (c : Core). IsPrefixOf c.history exit) (delete_core given.answer client given.core) q)
+  opened_went (Err reason) text luck client core word a t low ready p q = plans_went (Err reason) text luck client core word a t ready p
 
   request_went : (request : Request) (luck : Luck) (client : Client) (core : Core) →
       Agrees exit least (length core.history) name (known_of name knowns) client → OnRequest exit least (known_of name knowns) client.front (length core.history) request →
-      least ≤ length core.history → IsPrefixOf core.history exit → IsPrefixOf (step_request request luck log client core).core.history exit →
+      from ≤ length core.history → Ready exit least core → IsPrefixOf core.history exit → IsPrefixOf (step_request request luck log client core).core.history exit →
       StepWent (step_request request luck log client core)
-  request_went no_request luck client core a r l p q = said_went Idle client core (record { agrees = a; answers = tt })
-  request_went (opened text) luck client core a r l p q =
-      let given = asked_and_looked luck.world core in
-      let asked = asked_of (config_in given.core) text in
-      let h : length core.history ≤ length given.core.history = longer core given.core (asked_and_looked_moves luck.world core).later.grows in
-      let behind : IsPrefixOf given.core.history exit = subst (λ c. IsPrefixOf c.history exit) (plan_same given.answer asked client given.core) q in
-      plan_went given.answer asked text client given.core
-      (agrees-more exit least (length core.history) (length given.core.history) name (known_of name knowns) client h a) r
-      (ap (λ config. asked_of config text) (seen_then given.core behind)) (omega (arith, l, h))
-  request_went (planned plan) luck client core a r l p q = next_went plan.unfetched luck plan client core a r p
+  request_went no_request luck client core a r low ready p q = said_went Idle client core (record { agrees = a; answers = tt; deletes = tt })
+  request_went (opened text) luck client core a r low ready p q = opened_went (asked_of (config_in core) text) text luck client core refl a r low ready p q
+  request_went (planned plan) luck client core a r low ready p q = next_went plan.unfetched luck plan client core a r p
 
   short_went : (b : Bool) (client : Client) (step : Searched) → StepWent step → StepWent (or_short b client step)
   short_went true client step w = unsaid_went (without_request client) step.core
@@ -278,21 +402,36 @@ module _ (exit : List Entry) (log : Log) (least : ℕ) (knowns : List Known) (na
   short_core false client step = refl
 
   step_went : (luck : Luck) (client : Client) (core : Core) →
-      Agrees exit least (length core.history) name (known_of name knowns) client → least ≤ length core.history → IsPrefixOf core.history exit →
+      Agrees exit least (length core.history) name (known_of name knowns) client → from ≤ length core.history → Ready exit least core → IsPrefixOf core.history exit →
       IsPrefixOf (step_client luck log client core).core.history exit → StepWent (step_client luck log client core)
-  step_went luck client core a l p q =
+  step_went luck client core a low ready p q =
       let step = step_request client.request luck log client core in
       short_went luck.short client step
-      (request_went client.request luck client core a a.request l p (subst (λ c. IsPrefixOf c.history exit) (short_core luck.short client step) q))
+      (request_went client.request luck client core a a.request low ready p (subst (λ c. IsPrefixOf c.history exit) (short_core luck.short client step) q))
 
 -- ---- one line
 
--- what a line leaves: the log, a longer history, and clients that agree with what is known behind it; and what it says is answered
+-- What a line leaves: the log, a longer history, and clients that agree with what is known behind it; and what it says is answered, and a delete was done
+-- in it.
 record Goes (exit : List Entry) (least : ℕ) (knowns : List Known) (node : Node) (line : Line) (o : Outcome) (new : Node) : Type 0 where
   log : new.log ≡ node.log
   grows : Grows node.core new.core
   agrees : AllAgree exit least (length new.core.history) (λ q. known_of q (after_outcome knowns line o)) (λ q. client_named q new.clients)
   answers : AnswersOne exit node.log least knowns line o
+  deletes : Deletes exit (length node.core.history) (length new.core.history) knowns line o
+
+-- no client's step says it
+abbrev IsApart : Outcome → Type 0
+IsApart (client_said name step) = ⊥
+IsApart outcome = ⊤
+
+apart_answers : (exit : List Entry) (log : Log) (least : ℕ) (knowns : List Known) (line : Line) (o : Outcome) → IsApart o → AnswersOne exit log least knowns line o
+apart_answers exit log least knowns line (client_said name step) h = absurd h
+apart_answers exit log least knowns line o h = tt
+
+apart_deletes : (exit : List Entry) (least next : ℕ) (knowns : List Known) (line : Line) (o : Outcome) → IsApart o → Deletes exit least next knowns line o
+apart_deletes exit least next knowns line (client_said name step) h = absurd h
+apart_deletes exit least next knowns line o h = tt
 
 abbrev TurnGoes : List Entry → ℕ → List Known → Node → Line → Turned → Type 0
 TurnGoes exit least knowns node line t = (o : Outcome) → t.said ≡ Some o → Goes exit least knowns node line o t.node
@@ -326,7 +465,7 @@ module _ (exit : List Entry) (least : ℕ) (knowns : List Known) (node : Node) (
   known_stays : (s : SearchStep) (q : List ℕ) →
       known_of q (after_outcome knowns (StepClient name) (client_said name s))
       ≡ (if bytes_eq name q then known_of name (after_outcome knowns (StepClient name) (client_said name s)) else known_of q knowns)
-  known_stays (Replied reply) q = known_set name (record (known_of name knowns) { front = reply.revision }) knowns q (all name).known_name
+  known_stays (Replied reply) q = known_set name (record (known_of name knowns) { text = []; front = reply.revision }) knowns q (all name).known_name
   known_stays Idle q = known_same name knowns q
   known_stays (Planned revision count) q = known_same name knowns q
   known_stays (Fetched number) q = known_same name knowns q
@@ -336,7 +475,7 @@ module _ (exit : List Entry) (least : ℕ) (knowns : List Known) (node : Node) (
   kept_client client e q = client_named-with q client node.clients ∙ ap (λ n. if bytes_eq n q then client else client_named q node.clients) e
 
   -- the node behind a client's step
-  stepped_goes : (s : SearchStep) (client : Client) (core : Core) → Grows node.core core → Went exit node.log least knowns name s client core →
+  stepped_goes : (s : SearchStep) (client : Client) (core : Core) → Grows node.core core → Went exit node.log least (length node.core.history) knowns name s client core →
       Goes exit least knowns node (StepClient name) (client_said name s) (record (keep_client client node) { core = core })
   stepped_goes s client core g w =
       record {
@@ -349,10 +488,11 @@ module _ (exit : List Entry) (least : ℕ) (knowns : List Known) (node : Node) (
             (all-more exit least (length node.core.history) (length core.history) (λ q. known_of q knowns) (λ q. client_named q node.clients) (longer node.core core g) all)
             w.agrees;
         answers = w.answers;
+        deletes = w.deletes;
       }
 
   stepped_by : (said : Option SearchStep) (client : Client) (core : Core) → Grows node.core core →
-      ((s : SearchStep) → said ≡ Some s → Went exit node.log least knowns name s client core) →
+      ((s : SearchStep) → said ≡ Some s → Went exit node.log least (length node.core.history) knowns name s client core) →
       TurnGoes exit least knowns node (StepClient name) (record { said = said_by_client name said; node = record (keep_client client node) { core = core } })
   stepped_by None client core g w = unsaid_goes exit least knowns node (StepClient name) _
   stepped_by (Some s) client core g w =
@@ -367,23 +507,23 @@ module _ (exit : List Entry) (least : ℕ) (knowns : List Known) (node : Node) (
       (λ q. known_of q knowns) (λ q. known_of q knowns) (λ q. client_named q node.clients) (λ q. client_named q (with_client client node.clients))
       (known_same name knowns) (kept_client client a.client_name) all a
 
-  client_goes : (down : Bool) (luck : node_turns.Luck) → least ≤ length node.core.history →
+  client_goes : (down : Bool) (luck : node_turns.Luck) → Ready exit least node.core →
       IsPrefixOf (client_turn_by down luck name node).node.core.history exit →
       TurnGoes exit least knowns node (StepClient name) (client_turn_by down luck name node)
   client_goes true luck l p =
       said_goes exit least knowns node (StepClient name) _ (keep_client (client_named name node.clients) node)
-      (record { log = refl; grows = same_grows node.core node.core refl; agrees = kept_agrees (client_named name node.clients) (all name); answers = tt })
+      (record { log = refl; grows = same_grows node.core node.core refl; agrees = kept_agrees (client_named name node.clients) (all name); answers = tt; deletes = tt })
   client_goes false luck l p =
       let client = client_named name node.clients in
       let step = step_client (searching_luck luck) node.log client node.core in
       let g = (client_moves (searching_luck luck) node.log client node.core).later.grows in
       stepped_by step.outcome step.client step.core g
-      (step_went exit node.log least knowns name (searching_luck luck) client node.core (all name) l (prefix_on node.core.history step.core.history exit g p) p)
+      (step_went exit node.log least (length node.core.history) knowns name (searching_luck luck) client node.core (all name) (omega arith) l (prefix_on node.core.history step.core.history exit g p) p)
 
   -- the request was dropped
-  restarted_goes : (o : Outcome) → after_outcome knowns (RestartClient name) o ≡ knowns → AnswersOne exit node.log least knowns (RestartClient name) o →
+  restarted_goes : (o : Outcome) → after_outcome knowns (RestartClient name) o ≡ knowns → IsApart o →
       TurnGoes exit least knowns node (RestartClient name) (record { said = Some o; node = keep_client (without_request (client_named name node.clients)) node })
-  restarted_goes o e answered =
+  restarted_goes o e apart =
       said_goes exit least knowns node (RestartClient name) o (keep_client (without_request (client_named name node.clients)) node)
       (record {
         log = refl;
@@ -391,7 +531,8 @@ module _ (exit : List Entry) (least : ℕ) (knowns : List Known) (node : Node) (
         agrees = subst (λ ks. AllAgree exit least (length node.core.history) (λ q. known_of q ks) (λ q. client_named q (with_client (without_request (client_named name node.clients)) node.clients)))
             (sym e) (kept_agrees (without_request (client_named name node.clients))
             (agrees-dropped exit least (length node.core.history) name (known_of name knowns) (client_named name node.clients) (all name)));
-        answers = answered;
+        answers = apart_answers exit node.log least knowns (RestartClient name) o apart;
+        deletes = apart_deletes exit (length node.core.history) (length node.core.history) knowns (RestartClient name) o apart;
       })
 
   -- a request was opened, or not
@@ -410,11 +551,12 @@ module _ (exit : List Entry) (least : ℕ) (knowns : List Known) (node : Node) (
             (subst (λ x. Agrees exit least (length node.core.history) name x c) (sym (known_first name k knowns a.known_name))
             (record { known_name = a.known_name; client_name = a.client_name; front = a.front; bound = a.bound; request = refl }));
         answers = tt;
+        deletes = tt;
       })
   opened_goes (opened other) text =
-      said_goes exit least knowns node (Open name text) _ node (record { log = refl; grows = same_grows node.core node.core refl; agrees = all; answers = tt })
+      said_goes exit least knowns node (Open name text) _ node (record { log = refl; grows = same_grows node.core node.core refl; agrees = all; answers = tt; deletes = tt })
   opened_goes (planned plan) text =
-      said_goes exit least knowns node (Open name text) _ node (record { log = refl; grows = same_grows node.core node.core refl; agrees = all; answers = tt })
+      said_goes exit least knowns node (Open name text) _ node (record { log = refl; grows = same_grows node.core node.core refl; agrees = all; answers = tt; deletes = tt })
 
 -- ---- the other lines
 
@@ -431,9 +573,9 @@ client_named-without q (c ∷ clients) = by (bytes_eq c.name q) refl (client_nam
 module _ (exit : List Entry) (least : ℕ) (knowns : List Known) (node : Node) (all : Agreed exit least knowns node) where
   -- a line that no client hears of: the clients are as they were, and the history may be longer
   other_goes : (line : Line) (o : Outcome) (new : Node) → new.log ≡ node.log → Grows node.core new.core → new.clients ≡ node.clients →
-      after_outcome knowns line o ≡ knowns → AnswersOne exit node.log least knowns line o →
+      after_outcome knowns line o ≡ knowns → IsApart o →
       TurnGoes exit least knowns node line (record { said = Some o; node = new })
-  other_goes line o new log g same e answered =
+  other_goes line o new log g same e apart =
       said_goes exit least knowns node line o new
       (record {
         log = log;
@@ -441,7 +583,8 @@ module _ (exit : List Entry) (least : ℕ) (knowns : List Known) (node : Node) (
         agrees = λ q. subst (λ k. Agrees exit least (length new.core.history) q k (client_named q new.clients)) (ap (known_of q) (sym e))
             (subst (λ cs. Agrees exit least (length new.core.history) q (known_of q knowns) (client_named q cs)) (sym same)
             (agrees-more exit least (length node.core.history) (length new.core.history) q (known_of q knowns) (client_named q node.clients) (longer node.core new.core g) (all q)));
-        answers = answered;
+        answers = apart_answers exit node.log least knowns line o apart;
+        deletes = apart_deletes exit (length node.core.history) (length new.core.history) knowns line o apart;
       })
 
   dropped_agree : (core : Core) → Grows node.core core →
@@ -453,12 +596,12 @@ module _ (exit : List Entry) (least : ℕ) (knowns : List Known) (node : Node) (
 
   restart_goes : (r : Result ⊤ Unread) (core : Core) → Grows node.core core → TurnGoes exit least knowns node RestartNode (restart_by r core node)
   restart_goes (Ok done) core g =
-      said_goes exit least knowns node RestartNode _ _ (record { log = refl; grows = g; agrees = dropped_agree core g; answers = tt })
+      said_goes exit least knowns node RestartNode _ _ (record { log = refl; grows = g; agrees = dropped_agree core g; answers = tt; deletes = tt })
   restart_goes (Err (not_read (faulted fault))) core g =
-      said_goes exit least knowns node RestartNode _ _ (record { log = refl; grows = g; agrees = dropped_agree core g; answers = tt })
+      said_goes exit least knowns node RestartNode _ _ (record { log = refl; grows = g; agrees = dropped_agree core g; answers = tt; deletes = tt })
   restart_goes (Err (not_read no_memory)) core g = unsaid_goes exit least knowns node RestartNode _
   restart_goes (Err calls.no_index) core g =
-      said_goes exit least knowns node RestartNode _ _ (record { log = refl; grows = g; agrees = dropped_agree core g; answers = tt })
+      said_goes exit least knowns node RestartNode _ _ (record { log = refl; grows = g; agrees = dropped_agree core g; answers = tt; deletes = tt })
 
   indexer_said_goes : (said : Option IndexerOutcome) (i : ℕ) (new : Node) → new.log ≡ node.log → Grows node.core new.core → new.clients ≡ node.clients →
       TurnGoes exit least knowns node (StepIndexer i) (record { said = said_by_indexer i said; node = new })
@@ -510,7 +653,7 @@ module _ (exit : List Entry) (least : ℕ) (knowns : List Known) (node : Node) (
   assign_goes (staged held) i names indexer = other_goes (Assign i names) _ node refl (same_grows node.core node.core refl) refl refl tt
   assign_goes (uploaded held) i names indexer = other_goes (Assign i names) _ node refl (same_grows node.core node.core refl) refl refl tt
 
-  full_goes : (luck : node_turns.Luck) (line : Line) → least ≤ length node.core.history →
+  full_goes : (luck : node_turns.Luck) (line : Line) → Ready exit least node.core →
       IsPrefixOf (full_turn luck node line).node.core.history exit → TurnGoes exit least knowns node line (full_turn luck node line)
   full_goes luck (At m) l p =
       let new = (full_turn luck node (At m)).node in other_goes (At m) _ new refl (same_grows node.core new.core refl) refl refl tt
@@ -533,26 +676,62 @@ module _ (exit : List Entry) (least : ℕ) (knowns : List Known) (node : Node) (
   quiet_goes true line t g = unsaid_goes exit least knowns node line (quiet line t.node)
   quiet_goes false line t g = g refl
 
-  by_goes : (b : Bool) (luck : node_turns.Luck) (line : Line) → least ≤ length node.core.history →
+  by_goes : (b : Bool) (luck : node_turns.Luck) (line : Line) → Ready exit least node.core →
       IsPrefixOf (turn_by b luck node line).node.core.history exit → TurnGoes exit least knowns node line (turn_by b luck node line)
   by_goes true luck line l p = unsaid_goes exit least knowns node line (quiet line node)
   by_goes false luck line l p =
       quiet_goes luck.short line (full_turn luck node line)
       (λ e. full_goes luck line l (subst (λ b. IsPrefixOf (or_quiet b line (full_turn luck node line)).node.core.history exit) e p))
 
-  turn_goes : (luck : node_turns.Luck) (line : Line) → least ≤ length node.core.history →
+  turn_goes : (luck : node_turns.Luck) (line : Line) → Ready exit least node.core →
       IsPrefixOf (turn_with luck node line).node.core.history exit → TurnGoes exit least knowns node line (turn_with luck node line)
   turn_goes luck line l p = by_goes luck.early luck line l p
 
 -- ---- all lines
 
+-- these lines are answered, and those of deletes behind so many entries
+abbrev AllAnswered : List Entry → Log → (least from : ℕ) → List Known → List Line → List Outcome → Type 0
+AllAnswered exit log least from knowns lines outcomes = AnswersFrom exit log least knowns lines outcomes × DeletesFrom exit from knowns lines outcomes
+
+-- a line that begins earlier
+replies_from : (exit : List Entry) (lower from next : ℕ) (known : Known) (reply : Reply) (said : Said) → lower ≤ from → Replies exit from next known reply said → Replies exit lower next known reply said
+replies_from exit lower from next known reply (Found count hits aggregations) le d = tt
+replies_from exit lower from next known reply (Deleted opstamp) le d =
+    record {
+      client = d.client;
+      deletion = d.deletion;
+      asked = d.asked;
+      earlier = d.earlier;
+      moment = d.moment;
+      is = d.is;
+      stamp = d.stamp;
+      front = d.front;
+      begins = let low = d.begins in omega (arith, le, low);
+      ends = d.ends;
+    }
+replies_from exit lower from next known reply (Refused refusal) le d = d
+
+deletes_from : (exit : List Entry) (lower from next : ℕ) (knowns : List Known) (line : Line) (o : Outcome) → lower ≤ from → Deletes exit from next knowns line o → Deletes exit lower next knowns line o
+deletes_from exit lower from next knowns line (client_said who (Replied reply)) le d = (d.0, d.1, replies_from exit lower from next (known_of d.0 knowns) reply reply.said le d.2)
+deletes_from exit lower from next knowns line o le d = tt
+
 -- one line, and what is known behind it
-one_more : (exit : List Entry) (least : ℕ) (knowns : List Known) (node last : Node) (line : Line) (lines : List Line) (o : Outcome) (os : List Outcome) →
-    Agreed exit least knowns node → least ≤ length node.core.history → IsPrefixOf last.core.history exit →
+one_more : (exit : List Entry) (least from : ℕ) (knowns : List Known) (node last : Node) (line : Line) (lines : List Line) (o : Outcome) (os : List Outcome) →
+    Agreed exit least knowns node → Ready exit least node.core → from ≤ length node.core.history → IsPrefixOf last.core.history exit →
     (run : (mid : Node) × Turn node line (Some o) mid × Turns mid lines os last) →
-    (Agreed exit least (after_outcome knowns line o) run.0 → least ≤ length run.0.core.history → AnswersFrom exit run.0.log least (after_outcome knowns line o) lines os) →
-    AnswersOne exit node.log least knowns line o × AnswersFrom exit node.log least (after_outcome knowns line o) lines os
-one_more exit least knowns node last line lines o os all l p run more = (goes.answers, rest)
+    (Agreed exit least (after_outcome knowns line o) run.0 → Ready exit least run.0.core →
+    AllAnswered exit run.0.log least (length run.0.core.history) (after_outcome knowns line o) lines os) →
+    AllAnswered exit node.log least from knowns (line ∷ lines) (o ∷ os)
+one_more exit least from knowns node last line lines o os all ready low p run more = (
+  (goes.answers, subst (λ g. AnswersFrom exit g least (after_outcome knowns line o) lines os) goes.log rest.0),
+  (
+    length mid.core.history,
+    omega (arith, low, up),
+    mid_short,
+    deletes_from exit from (length node.core.history) (length mid.core.history) knowns line o low goes.deletes,
+    rest.1,
+  ),
+)
   where
     mid : Node
     mid = run.0
@@ -566,24 +745,30 @@ one_more exit least knowns node last line lines o os all l p run more = (goes.an
     mid_before : IsPrefixOf mid.core.history exit
     mid_before = prefix_on mid.core.history last.core.history exit (turns_later mid last lines os run.2).grows p
 
+    mid_short : length mid.core.history ≤ length exit
+    mid_short = let e : length exit ≡ length mid.core.history + length mid_before.0 = ap length mid_before.1 ∙ length-append mid.core.history mid_before.0 in omega (arith, e)
+
     goes : Goes exit least knowns node line o mid
     goes = subst (λ x. TurnGoes exit least knowns node line x) is
-        (turn_goes exit least knowns node all run.1.luck line l (subst (λ x. IsPrefixOf x.node.core.history exit) (sym is) mid_before)) o refl
+        (turn_goes exit least knowns node all run.1.luck line ready (subst (λ x. IsPrefixOf x.node.core.history exit) (sym is) mid_before)) o refl
 
-    rest : AnswersFrom exit node.log least (after_outcome knowns line o) lines os
+    up : length node.core.history ≤ length mid.core.history
+    up = longer node.core mid.core goes.grows
+
+    rest : AllAnswered exit mid.log least (length mid.core.history) (after_outcome knowns line o) lines os
     rest =
-        subst (λ g. AnswersFrom exit g least (after_outcome knowns line o) lines os) goes.log
-        (more goes.agrees (let h = longer node.core mid.core goes.grows in omega (arith, l, h)))
+        more goes.agrees
+        (record { legal = ready.legal; low = let l = ready.low in omega (arith, l, up); some = let l = ready.some in omega (arith, l, up) })
 
-pub searches_answered : (exit : List Entry) (least : ℕ) (knowns : List Known) (node last : Node) (lines : List Line) (outcomes : List Outcome) →
-    Agreed exit least knowns node → least ≤ length node.core.history → IsPrefixOf last.core.history exit →
-    Turns node lines outcomes last → AnswersFrom exit node.log least knowns lines outcomes
-searches_answered exit least knowns node last [] [] all l p run = tt
-searches_answered exit least knowns node last [] (o ∷ os) all l p run = absurd run
-searches_answered exit least knowns node last (line ∷ lines) [] all l p run = absurd run
-searches_answered exit least knowns node last (line ∷ lines) (o ∷ os) all l p run =
-    one_more exit least knowns node last line lines o os all l p run
-    (λ agreed within. searches_answered exit least (after_outcome knowns line o) run.0 last lines os agreed within p run.2)
+searches_answered : (exit : List Entry) (least from : ℕ) (knowns : List Known) (node last : Node) (lines : List Line) (outcomes : List Outcome) →
+    Agreed exit least knowns node → Ready exit least node.core → from ≤ length node.core.history → IsPrefixOf last.core.history exit →
+    Turns node lines outcomes last → AllAnswered exit node.log least from knowns lines outcomes
+searches_answered exit least from knowns node last [] [] all ready low p run = (tt, tt)
+searches_answered exit least from knowns node last [] (o ∷ os) all ready low p run = absurd run
+searches_answered exit least from knowns node last (line ∷ lines) [] all ready low p run = absurd run
+searches_answered exit least from knowns node last (line ∷ lines) (o ∷ os) all ready low p run =
+    one_more exit least from knowns node last line lines o os all ready low p run
+    (λ agreed there. searches_answered exit least (length run.0.core.history) (after_outcome knowns line o) run.0 last lines os agreed there (omega arith) p run.2)
 
 -- a node that no client has talked to
 none_known : (exit : List Entry) (least : ℕ) (node : Node) → node.clients ≡ [] → Agreed exit least [] node
@@ -591,11 +776,13 @@ none_known exit least node e name =
     subst (λ cs. Agrees exit least (length node.core.history) name (known_of name []) (client_named name cs)) (sym e)
     (record { known_name = refl; client_name = refl; front = refl; bound = omega arith; request = tt })
 
--- from what a call opened on, the searches are answered
-pub searches_follow : (entry exit : List Entry) (first last : Node) (lines : List Line) (outcomes : List Outcome) →
+-- from what a call opened on, the searches are answered, and each delete that is told was done
+pub searches_follow : (entry exit : List Entry) (first last : Node) (lines : List Line) (outcomes : List Outcome) → Legal reads (history exit) → 0 < length first.core.history →
     first.clients ≡ [] → IsPrefixOf entry first.core.history → IsPrefixOf last.core.history exit →
-    Turns first lines outcomes last → AnswersFrom exit first.log (length entry) [] lines outcomes
-searches_follow entry exit first last lines outcomes fresh begins p run =
-    searches_answered exit (length entry) [] first last lines outcomes (none_known exit (length entry) first fresh)
-    (let e : length first.core.history ≡ length entry + length begins.0 = ap length begins.1 ∙ length-append entry begins.0 in omega (arith, e))
-    p run
+    Turns first lines outcomes last → AnswersFrom exit first.log (length entry) [] lines outcomes × DeletesFrom exit (length entry) [] lines outcomes
+searches_follow entry exit first last lines outcomes legal some fresh begins p run =
+    searches_answered exit (length entry) (length entry) [] first last lines outcomes (none_known exit (length entry) first fresh)
+    (record { legal = legal; low = low; some = some }) low p run
+  where
+    low : length entry ≤ length first.core.history
+    low = let e : length first.core.history ≡ length entry + length begins.0 = ap length begins.1 ∙ length-append entry begins.0 in omega (arith, e)

@@ -18,7 +18,7 @@ use Rattle.index_world.specs.Gate.{stage_call, publish_call}
 use Rattle.index_world.specs.SplitFile.{file_of}
 use Rattle.indexing_run.specs.Outcomes.{IndexerOutcome}
 use Rattle.indexing_run.specs.Places.{Batch, Held, Place, idle, reading, staged, uploaded, Indexer}
-use Rattle.indexing_run.specs.Steps.{LogCall, Stepped, stepped, log_may_fail, log_called, trouble_outcome, take_checkpoints, checkpoints_by, idle_by, read_by, read_given, step_read, stage_by, step_stage, batch_facts, upload_by, step_upload, publish_refused, publish_by, step_publish, step_batch, step_place, step_indexer}
+use Rattle.indexing_run.specs.Steps.{LogCall, Stepped, stepped, log_may_fail, log_called, trouble_outcome, take_checkpoints, checkpoints_by, idle_by, read_by, read_given, step_read, stage_by, batch_facts, upload_by, publish_refused, publish_by, step_batch, step_place, step_indexer}
 use Rattle.indexing_run.specs.Steps as indexing
 use Rattle.root_search.specs.Steps.{Request, no_request, opened, planned, Client}
 use Rattle.root_search.specs.declared.outcome.SearchStep.{SearchStep}

@@ -12,7 +12,7 @@ use Rattle.split_collector.specs.Steps.{CallLuck, Luck as CollectingLuck, alone,
 use Rattle.split_collector.specs.Turns.{Turn as CollectorTurn, ended, to_doom, to_list, to_mark, to_remove, to_sweep}
 use Rattle.upkeep_run.specs.declared.work.Aim.TheVariants.{Deleting, Merging}
 use Rattle.node_run.specs.Node.{Node, Line, At, Assign, StepIndexer, RestartIndexer, RestartClient, StepMerger, RestartMerger, StepDeleter, RestartDeleter, StepCollector, RestartCollector, RestartNode, Open, StepClient, Outcome}
-use Rattle.node_run.specs.Turns.{Luck, assign_at, client_named, client_turn_by, collecting_luck, collector_turn_by, full_turn, indexer_at, indexer_turn_by, indexing_luck, open_by, or_quiet, searching_luck, turn_by, with_deleter, with_merger, worker_turn_by, working_luck, Turn}
+use Rattle.node_run.specs.Turns.{Luck, client_named, client_turn_by, collecting_luck, collector_turn_by, full_turn, indexer_at, indexer_turn_by, indexing_luck, or_quiet, searching_luck, turn_by, with_deleter, with_merger, worker_turn_by, working_luck, Turn}
 use Rattle.index_world.proofs.Worlds.{same-landed}
 use Rattle.node_run.proofs.CollectorMoves.{answered_same, unmade_same}
 use Rattle.node_run.proofs.Moving.{assign_same, open_same, restart_same}

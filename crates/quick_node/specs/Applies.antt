@@ -1,8 +1,8 @@
 -- What each outcome of a delete worker comes from, by the lines and the journal alone.
-use Rattle.std.specs.Prelude.{◌≡◌, ◌⊎◌, ℕ, ◌<◌, ◌≤◌, true, List, [], ◌∷◌, find, length, take, slice_get, Option, Some, None, Err}
+use Rattle.std.specs.Prelude.{◌≡◌, ◌⊎◌, ℕ, ◌<◌, ◌≤◌, true, List, [], ◌∷◌, find, length, take, slice_get, Option, Some, Err}
 use Rattle.std.specs.List.{AllByRecursion}
 use Rattle.std.specs.Option.{option_map}
-use Rattle.meta_journal.specs.declared.entry.Act.TheVariants.{Raise, Replace}
+use Rattle.meta_journal.specs.declared.entry.Act.TheVariants.{Raise}
 use Rattle.meta_journal.specs.declared.entry.Entry.{Entry}
 use Rattle.meta_store.specs.History.{history, last_opstamp}
 use Rattle.meta_store.specs.Planning.{is_behind}
@@ -10,20 +10,29 @@ use Rattle.meta_store.specs.Rows.{rows}
 use Rattle.meta_store.specs.declared.refusal.Refusal.{Refusal}
 use Rattle.meta_store.specs.declared.refusal.Refusal.TheVariants.{State as BadState}
 use Rattle.split_states.specs.Answers.{answer_to_raise}
-use Rattle.split_states.specs.declared.refusal.StateRefusal.{StateRefusal}
-use Rattle.split_states.specs.declared.rows.RowState.TheVariants.{Published}
-use Rattle.split_states.specs.declared.rows.Row.{Row}
 use Rattle.split_states.specs.Rows.{is_published}
+use Rattle.split_states.specs.declared.refusal.StateRefusal.{StateRefusal}
+use Rattle.split_states.specs.declared.rows.Row.{Row}
+use Rattle.split_states.specs.declared.rows.RowState.TheVariants.{Published}
 use Rattle.upkeep_run.specs.Outcomes.{UpkeepOutcome}
 use Rattle.upkeep_run.specs.Outcomes as working
 use Rattle.upkeep_run.specs.declared.work.Aim.TheVariants.{Deleting}
-use Rattle.node_run.specs.Node.{Line, Outcome, worker_said, worker_restarted, node_restarted, node_failed}
-use Rattle.quick_node.specs.Replaces.{IsCrowded, IsHindered, IsRefused, IsStaging, IsThen}
+use Rattle.node_run.specs.Node.{Line, StepDeleter, RestartDeleter, Outcome, worker_said, worker_restarted, node_restarted, node_failed}
+use Rattle.quick_node.specs.Replaces.{IsCrowded, IsHindered, IsRefused, IsReplacing, IsStaging, IsThen}
 
--- the row that is worked on, and up to which task
+-- a row, and the task up to which it is to be applied
 pub record Applying : Type 0 where
   pub row : ℕ
   pub upto : ℕ
+
+-- What a delete worker said last of its row: that it was planned, that its file was fetched, that another row was staged in its place, or that
+-- this one's file was made. It is idle where it has no row.
+pub data Progress : Type 0 where
+  idle : Progress
+  planned : Applying → Progress
+  fetched : Applying → Progress
+  staged : Applying → (number : ℕ) → Progress
+  uploaded : Applying → (number : ℕ) → Progress
 
 -- ---- the row that is chosen
 
@@ -31,12 +40,12 @@ pub record Applying : Type 0 where
 abbrev pub last_task : (revision : ℕ) → List Entry → ℕ
 last_task revision entries = last_opstamp (history (take revision entries))
 
--- the published row of least number, behind so many entries, of which a span isn't applied up to their last task
+-- Behind so many entries, the first published row with a span that isn't applied up to their last task. Rows stand by their numbers.
 abbrev pub behind_at : (revision : ℕ) → List Entry → Option ℕ
 behind_at revision entries = option_map (λ row. row.number) (find (is_behind (last_task revision entries)) (rows (history (take revision entries))))
 
--- behind so many entries each span of each published row is applied up to their last task, and no further
-abbrev pub IsApplied : ℕ → Row → Type 0
+-- each span of a published row is applied up to the last task, and no further
+abbrev pub IsApplied : (last : ℕ) → Row → Type 0
 IsApplied last row = is_published row.state ≡ true → AllByRecursion (λ span. span.applied ≡ last) row.spans
 
 abbrev pub AllApplied : (revision : ℕ) → List Entry → Type 0
@@ -44,54 +53,57 @@ AllApplied revision entries = AllByRecursion (IsApplied (last_task revision entr
 
 -- ---- what a delete worker says
 
--- the entry at this place raises the row up to the task
+-- The entry at this place applies the row up to the task, and leaves its file. That none of these tasks removes a document of the row is said by
+-- the files: behind the entry the row's spans hold what no task up to there removes, and behind each line its file holds just that (`along` and
+-- `once` of `Drives`).
 abbrev pub IsRaising : List Entry → (place : ℕ) → Applying → Type 0
 IsRaising entries place work = (entry : Entry) × (slice_get entries place ≡ Some entry) × (entry.act ≡ Raise work.row work.upto)
 
--- or puts one row in its place, applied up to the task
-abbrev pub IsRemaking : List Entry → (place number : ℕ) → Applying → Type 0
-IsRemaking entries place number work = (entry : Entry) × (slice_get entries place ≡ Some entry) × (entry.act ≡ Replace number (work.row ∷ []) work.upto)
-
--- behind so many entries a row can't be raised, since it isn't published, and is refused with the reason that the rows give
+-- behind so many entries a row can't be raised, since it isn't published, and this is the reason that the rows give
 abbrev pub IsUnraised : (revision : ℕ) → List Entry → (row : ℕ) → Refusal → Type 0
 IsUnraised revision entries row refusal =
-    (reason : StateRefusal) × (IsThen Published revision entries row → ⊥) × (answer_to_raise (rows (history (take revision entries))) row ≡ Err reason) × (refusal ≡ BadState reason)
+    (reason : StateRefusal) × (IsThen Published revision entries row → ⊥) × (answer_to_raise (rows (history (take revision entries))) row ≡ Err reason)
+    × (refusal ≡ BadState reason)
 
--- Behind so many entries the row can't be raised, or one row can't be put in its place.
-abbrev pub IsLost : (revision : ℕ) → List Entry → (number : ℕ) → Applying → Refusal → Type 0
-IsLost revision entries number work refusal =
-    ((number ≡ work.row) × IsUnraised revision entries number refusal)
-    ⊎ (IsHindered revision entries number (work.row ∷ []) × IsRefused revision entries number (work.row ∷ []) refusal)
+-- Behind so many entries the row can't be raised; or the row that was made can't be put in its place.
+abbrev pub IsLost : (revision : ℕ) → List Entry → Progress → Applying → (number : ℕ) → Refusal → Type 0
+IsLost revision entries at work number refusal =
+    ((at ≡ fetched work) × (number ≡ work.row) × IsUnraised revision entries number refusal)
+    ⊎ ((at ≡ uploaded work number) × IsHindered revision entries number (work.row ∷ []) × IsRefused revision entries number (work.row ∷ []) refusal)
 
--- What a delete worker said is what it did, in a line that begins behind `least` entries and ends behind `next`, where it had `work` at hand and
--- behind it `after`. The row is the one that was behind the tasks then, and the task the last one then. What it raised, staged and replaced is an
--- entry of this line, about exactly this row and this task.
-abbrev pub Applied : List Entry → (least next : ℕ) → (work after : Option Applying) → UpkeepOutcome → Type 0
-Applied entries least next work after working.Nothing = after ≡ None
-Applied entries least next work after (working.Planned count) =
-    (revision : ℕ) × (row : ℕ) × (least ≤ revision) × (revision ≤ next) × (behind_at revision entries ≡ Some row) × (count ≡ 1)
-    × (after ≡ Some (record { row = row; upto = last_task revision entries }))
-Applied entries least next work after (working.Fetched number) = (at : Applying) × (work ≡ Some at) × (number ≡ at.row) × (after ≡ work)
-Applied entries least next work after (working.Staged number) = (place : ℕ) × (least ≤ place) × (place < next) × IsStaging entries place number × (after ≡ work)
-Applied entries least next work after (working.Uploaded number) = after ≡ work
-Applied entries least next work after (working.Replaced number) =
-    (at : Applying) × (place : ℕ) × (work ≡ Some at) × (least ≤ place) × (place < next) × IsRemaking entries place number at × (after ≡ None)
-Applied entries least next work after (working.Raised number) =
-    (at : Applying) × (place : ℕ) × (work ≡ Some at) × (number ≡ at.row) × (least ≤ place) × (place < next) × IsRaising entries place at × (after ≡ None)
-Applied entries least next work after (working.Lost number refusal) =
-    (at : Applying) × (revision : ℕ) × (work ≡ Some at) × (least ≤ revision) × (revision ≤ next) × IsLost revision entries number at refusal × (after ≡ None)
-Applied entries least next work after (working.Refused refusal) = (revision : ℕ) × (least ≤ revision) × (revision ≤ next) × IsCrowded revision entries refusal × (after ≡ None)
-Applied entries least next work after (working.Faulted fault) = after ≡ None
+-- What a delete worker said is what it did, in a line that begins behind `least` entries and ends behind `next`, where it was at `at` and then at
+-- `after`. The row is the first that was behind the tasks then, and the task the last one then. What it staged, raised and replaced is an entry of
+-- this line, about exactly this row and this task. The row is lost only where at a revision of this line the journal doesn't allow the entry, and
+-- the other row refused only where no row more may be staged.
+abbrev pub Applied : List Entry → (least next : ℕ) → (at after : Progress) → UpkeepOutcome → Type 0
+Applied entries least next at after working.Nothing = (at ≡ idle) × (after ≡ idle)
+Applied entries least next at after (working.Planned count) =
+    (revision : ℕ) × (row : ℕ) × (least ≤ revision) × (revision ≤ next) × (at ≡ idle) × (count ≡ 1) × (behind_at revision entries ≡ Some row)
+    × (after ≡ planned (record { row = row; upto = last_task revision entries }))
+Applied entries least next at after (working.Fetched number) = (work : Applying) × (at ≡ planned work) × (number ≡ work.row) × (after ≡ fetched work)
+Applied entries least next at after (working.Staged number) =
+    (work : Applying) × (place : ℕ) × (least ≤ place) × (place < next) × (at ≡ fetched work) × IsStaging entries place number × (after ≡ staged work number)
+Applied entries least next at after (working.Uploaded number) = (work : Applying) × (at ≡ staged work number) × (after ≡ uploaded work number)
+Applied entries least next at after (working.Replaced number) =
+    (work : Applying) × (place : ℕ) × (least ≤ place) × (place < next) × (at ≡ uploaded work number)
+    × IsReplacing entries place number (work.row ∷ []) work.upto × (after ≡ idle)
+Applied entries least next at after (working.Raised number) =
+    (work : Applying) × (place : ℕ) × (least ≤ place) × (place < next) × (at ≡ fetched work) × (number ≡ work.row) × IsRaising entries place work × (after ≡ idle)
+Applied entries least next at after (working.Lost number refusal) =
+    (work : Applying) × (revision : ℕ) × (least ≤ revision) × (revision ≤ next) × IsLost revision entries at work number refusal × (after ≡ idle)
+Applied entries least next at after (working.Refused refusal) =
+    (work : Applying) × (revision : ℕ) × (least ≤ revision) × (revision ≤ next) × (at ≡ fetched work) × IsCrowded revision entries refusal × (after ≡ idle)
+Applied entries least next at after (working.Faulted fault) = after ≡ idle
 
--- A restart drops what is at hand, and other outcomes leave it.
-abbrev pub Applies : List Entry → (least next : ℕ) → (work after : Option Applying) → Outcome → Type 0
-Applies entries least next work after (worker_said Deleting outcome) = Applied entries least next work after outcome
-Applies entries least next work after (worker_restarted Deleting) = after ≡ None
-Applies entries least next work after (node_restarted revision) = after ≡ None
-Applies entries least next work after (node_failed fault) = after ≡ None
-Applies entries least next work after outcome = after ≡ work
+-- It says so at its own line alone. A restart makes it idle, and other outcomes leave it where it is.
+abbrev pub Applies : List Entry → (least next : ℕ) → (at after : Progress) → Line → Outcome → Type 0
+Applies entries least next at after line (worker_said Deleting outcome) = (line ≡ StepDeleter) × Applied entries least next at after outcome
+Applies entries least next at after line (worker_restarted Deleting) = (line ≡ RestartDeleter) × (after ≡ idle)
+Applies entries least next at after line (node_restarted revision) = after ≡ idle
+Applies entries least next at after line (node_failed fault) = after ≡ idle
+Applies entries least next at after line outcome = after ≡ at
 
--- Where nothing was to be done, all published rows stood for all tasks at a revision of this line.
+-- Where nothing was to be done, all published rows were applied up to the last task at a revision of this line.
 abbrev pub Settled : List Entry → (least next : ℕ) → UpkeepOutcome → Type 0
 Settled entries least next working.Nothing = (revision : ℕ) × (least ≤ revision) × (revision ≤ next) × AllApplied revision entries
 Settled entries least next outcome = Unit {0}
@@ -103,16 +115,13 @@ Settles entries least next outcome = Unit {0}
 -- ---- line by line
 
 -- So did each line behind so many entries of the journal at exit, up to where the next one begins: no two of them tell of one entry.
-abbrev pub AppliesFrom : List Entry → (least : ℕ) → Option Applying → List Line → List Outcome → Type 0
-AppliesFrom exit least work [] [] = Unit {0}
-AppliesFrom exit least work [] (outcome ∷ outcomes) = ⊥
-AppliesFrom exit least work (line ∷ lines) [] = ⊥
-AppliesFrom exit least work (line ∷ lines) (outcome ∷ outcomes) =
-    (next : ℕ) × (after : Option Applying) × (least ≤ next) × (next ≤ length exit) × Applies exit least next work after outcome × AppliesFrom exit next after lines outcomes
+abbrev pub AppliesFrom : List Entry → (least : ℕ) → Progress → List Line → List Outcome → Type 0
+AppliesFrom exit least at [] [] = Unit {0}
+AppliesFrom exit least at [] (outcome ∷ outcomes) = ⊥
+AppliesFrom exit least at (line ∷ lines) [] = ⊥
+AppliesFrom exit least at (line ∷ lines) (outcome ∷ outcomes) =
+    (next : ℕ) × (after : Progress) × (least ≤ next) × (next ≤ length exit) × Applies exit least next at after line outcome × AppliesFrom exit next after lines outcomes
 
-abbrev pub SettlesFrom : List Entry → (least : ℕ) → List Line → List Outcome → Type 0
-SettlesFrom exit least [] [] = Unit {0}
-SettlesFrom exit least [] (outcome ∷ outcomes) = ⊥
-SettlesFrom exit least (line ∷ lines) [] = ⊥
-SettlesFrom exit least (line ∷ lines) (outcome ∷ outcomes) =
-    (next : ℕ) × (least ≤ next) × (next ≤ length exit) × Settles exit least next outcome × SettlesFrom exit next lines outcomes
+abbrev pub SettlesFrom : List Entry → (least : ℕ) → List Outcome → Type 0
+SettlesFrom exit least [] = Unit {0}
+SettlesFrom exit least (outcome ∷ outcomes) = (next : ℕ) × (least ≤ next) × (next ≤ length exit) × Settles exit least next outcome × SettlesFrom exit next outcomes

@@ -1,4 +1,6 @@
 pub mod Reading
+pub mod Fronts
+pub mod Deletes
 pub mod Once
 pub mod Serve
 pub mod Pieces

@@ -37,9 +37,9 @@ chosen_at clock revision entries = chosen_by (config_or (configuration (take rev
 
 -- ---- what a merger says
 
--- the entry at this place of a journal, counted from 0, puts one row in the place of these, and applies no task
-abbrev pub IsReplacing : List Entry → (place number : ℕ) → (old : List ℕ) → Type 0
-IsReplacing entries place number old = (entry : Entry) × (slice_get entries place ≡ Some entry) × (entry.act ≡ Replace number old 0)
+-- the entry at this place of a journal, counted from 0, puts one row in the place of these, applied up to a task, or up to none where that is 0
+abbrev pub IsReplacing : List Entry → (place number : ℕ) → (old : List ℕ) → (upto : ℕ) → Type 0
+IsReplacing entries place number old upto = (entry : Entry) × (slice_get entries place ≡ Some entry) × (entry.act ≡ Replace number old upto)
 
 -- or stages a row without records of its own
 abbrev pub IsStaging : List Entry → (place number : ℕ) → Type 0
@@ -73,7 +73,7 @@ Merged entries clock least next plan planned (working.Planned count) =
 Merged entries clock least next plan planned (working.Fetched number) = Contains plan number × (planned ≡ plan)
 Merged entries clock least next plan planned (working.Staged number) = (place : ℕ) × (least ≤ place) × (place < next) × IsStaging entries place number × (planned ≡ plan)
 Merged entries clock least next plan planned (working.Uploaded number) = planned ≡ plan
-Merged entries clock least next plan planned (working.Replaced number) = (place : ℕ) × (least ≤ place) × (place < next) × IsReplacing entries place number plan × (planned ≡ [])
+Merged entries clock least next plan planned (working.Replaced number) = (place : ℕ) × (least ≤ place) × (place < next) × IsReplacing entries place number plan 0 × (planned ≡ [])
 Merged entries clock least next plan planned (working.Raised number) = ⊥
 Merged entries clock least next plan planned (working.Lost number refusal) =
     (revision : ℕ) × (least ≤ revision) × (revision ≤ next) × IsHindered revision entries number plan × IsRefused revision entries number plan refusal × (planned ≡ [])

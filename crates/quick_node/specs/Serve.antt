@@ -1,5 +1,5 @@
 -- The clause of the top call for the command `drive`.
-use Rattle.std.specs.Prelude.{◌≡◌, ◌⊎◌, ◌≢◌, ℕ, ◌<◌, ◌≤◌, List, [], ◌∷◌, ◌++◌, length, take, if◌then◌else◌, decimal, codes, map, flat_map, min, sum, Ok, Err, Result, ⊤, Option, Some, None, All, bytes_eq, slice_index}
+use Rattle.std.specs.Prelude.{◌≡◌, ◌⊎◌, ◌≢◌, ℕ, ◌<◌, ◌≤◌, List, [], ◌∷◌, ◌++◌, length, take, decimal, codes, map, flat_map, min, sum, Ok, Err, Result, ⊤, Option, Some, None, All, slice_index}
 use Rattle.std.specs.List.{AllByRecursion}
 use Rattle.meta_journal.specs.declared.entry.Act.TheVariants.{Create}
 use Rattle.meta_journal.specs.declared.entry.Entry.{Entry}
@@ -9,7 +9,7 @@ use Rattle.byte_fields.specs.Causes.{Rose}
 use Rattle.index_world.specs.Calls.{Fate, gives, faulted, no_memory, store_fault, Unread, not_read, loaded}
 use Rattle.index_world.specs.Calls as calls
 use Rattle.index_config.specs.declared.config.IndexConfig.{IndexConfig}
-use Rattle.index_world.specs.Configuration.{configuration, config_or}
+use Rattle.index_world.specs.Configuration.{configuration}
 use Rattle.index_world.specs.Core.{Core, last_count}
 use Rattle.index_world.specs.Index.{IsIndexOf}
 use Rattle.index_world.specs.Seen.{visible_at}
@@ -19,19 +19,22 @@ use Rattle.indexing_run.specs.Places.{Indexer}
 use Rattle.root_search.specs.Answer.{answer}
 use Rattle.root_search.specs.Requests.{asked_of}
 use Rattle.root_search.specs.declared.outcome.SearchStep.TheVariants.{Replied}
-use Rattle.search_api.specs.Resolved.{Search}
+use Rattle.search_api.specs.Resolved.{IsSearch, Search}
 use Rattle.search_api.specs.declared.reply.Reply.{Reply}
 use Rattle.search_api.specs.declared.reply.Said.{Said}
 use Rattle.search_api.specs.declared.reply.Said.TheVariants.{Found, Deleted, Refused}
 use Rattle.node_run.specs.Lines.{printed}
-use Rattle.node_run.specs.Node.{Node, Line, Open, StepClient, Outcome, client_said, request_opened}
+use Rattle.node_run.specs.Node.{Node, Line, StepClient, Outcome, client_said}
 use Rattle.node_run.specs.Standing.{GivesLogs, LetGo}
 use Rattle.node_run.specs.Telling.{MayTell}
 use Rattle.node_run.specs.Turns.{Turn, Turns, turns, opened_node}
+use Rattle.quick_node.specs.Applies.{AppliesFrom, SettlesFrom, idle}
 use Rattle.quick_node.specs.CaughtUp.{unseen, CatchesUp}
 use Rattle.quick_node.specs.Collects.{LineCollects, CollectsFrom}
+use Rattle.quick_node.specs.Deletes.{DeletesFrom}
 use Rattle.quick_node.specs.Expires.{ExpiresOver}
 use Rattle.quick_node.specs.Faults.{Interval, AreBetween, store_told, log_told}
+use Rattle.quick_node.specs.Fronts.{Known, after_outcome, config_then, known_of}
 use Rattle.quick_node.specs.Once.{HoldsOnce, CoversAt, AreLeft, Reaches}
 use Rattle.quick_node.specs.Replaces.{ReplacesFrom, RestsFrom}
 use Rattle.quick_node.specs.Reading.{Ending, all_read, bad_line, clients_over, line_over, input_over, stopped, Reads, FailsBehind, max_clients, max_line, max_input}
@@ -266,33 +269,13 @@ pub record IsShown (after : After) (node : Node) : Type 0 where
 
 -- ---- the searches, without a node
 
--- what is known of a client from the lines and their outcomes: the text that it opened last, and its front
-pub record Known : Type 0 where
-  pub name : List ℕ
-  pub text : List ℕ
-  pub front : ℕ
-
-abbrev pub known_of : List ℕ → List Known → Known
-known_of name [] = record { name = name; text = []; front = 0 }
-known_of name (known ∷ more) = if bytes_eq known.name name then known else known_of name more
-
-abbrev pub after_outcome : List Known → Line → Outcome → List Known
-after_outcome knowns (Open name text) (request_opened who) = record (known_of name knowns) { text = text } ∷ knowns
-after_outcome knowns (StepClient name) (client_said who (Replied reply)) =
-    record (known_of name knowns) { front = reply.revision } ∷ knowns
-after_outcome knowns line outcome = knowns
-
--- the configuration that a journal names at a revision
-abbrev pub config_then : ℕ → List Entry → IndexConfig
-config_then revision history = config_or (configuration (take revision history))
-
 -- The reply is the answer to the search that its client opened last, as its text asks it of the index's configuration, over
--- what was visible at the revision that it names; that is at least the client's front and the journal's end at entry, and
--- the journal at exit reaches it.
+-- what was visible at the revision that it names; that is at least the client's front, of its deletes too, and the journal's end
+-- at entry, and the journal at exit reaches it.
 pub record IsAnswered (history : List Entry) (log : Log) (least : ℕ) (known : Known) (reply : Reply) : Type 0 where
   pub client : reply.client ≡ known.name
   pub search : Search
-  pub asked : asked_of (config_then reply.revision history) known.text ≡ Ok search
+  pub asked : asked_of (config_then reply.revision history) known.text ≡ Ok (IsSearch search)
   pub answer : reply.said ≡ answer (config_then reply.revision history).schema search (visible_at reply.revision history log)
   pub front : known.front ≤ reply.revision
   pub entry : least ≤ reply.revision
@@ -300,7 +283,7 @@ pub record IsAnswered (history : List Entry) (log : Log) (least : ℕ) (known : 
 
 abbrev pub IfFound : Said → Type 0 → Type 0
 IfFound (Found count hits aggregations) fact = fact
-IfFound (Deleted opstamp) fact = fact
+IfFound (Deleted opstamp) fact = Unit {0}
 IfFound (Refused refusal) fact = Unit {0}
 
 abbrev pub AnswersOne : List Entry → Log → ℕ → List Known → Line → Outcome → Type 0
@@ -353,6 +336,9 @@ pub record Drives (history : List Entry) (before : Before) (after : After) (stat
   pub configured : (config : IndexConfig) → configuration history ≡ Some config → (revision : ℕ) → length history ≤ revision → configuration (take revision exit) ≡ Some config
   -- each reply with hits is right, whatever failed
   pub searches : AnswersFrom exit before.log (length history) [] lines outcomes
+  -- each reply that a delete was done names the task that its line added to the journal, of exactly what its client asked to delete; and no refusal is
+  -- over a revision before its client's front, so a client's later searches are over one that has its tasks
+  pub deletes : DeletesFrom exit (length history) [] lines outcomes
   -- each fault of the store that a line tells has its count before and behind, of which the second rose: these lie one behind
   -- another between the counts at entry and at exit
   pub faults : before.store_faults ≤ last_count → AreBetween before.store_faults (end_told end ++ flat_map store_told outcomes) after.store_faults
@@ -372,6 +358,11 @@ pub record Drives (history : List Entry) (before : Before) (after : After) (stat
   pub replaces : ReplacesFrom exit 0 (length history) [] lines outcomes
   -- a merger has nothing to do only where the policy chooses no rows
   pub rests : RestsFrom exit 0 (length history) lines outcomes
+  -- what a delete worker says is what it did: it applies all tasks to the first row that is behind them, and that row is lost only where the journal
+  -- doesn't allow it
+  pub applies : AppliesFrom exit (length history) idle lines outcomes
+  -- a delete worker has nothing to do only where all published rows are applied up to the last task
+  pub settles : SettlesFrom exit (length history) outcomes
   -- no line tells that a key is foreign or that an entry of the collector is refused, and what fails but for an entry, or for a fetch that comes
   -- too late, is the store
   pub tell : AllByRecursion MayTell outcomes

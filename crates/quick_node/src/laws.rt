@@ -3,15 +3,21 @@
 ghost use Rattle.std.specs.Prelude.{◌≡◌, ◌⊎◌, ◌≢◌, ℕ, ◌<◌, ◌≤◌, List, [], ◌∷◌, ◌++◌, length, Option, Some, Ok, IsOk};
 ghost use Rattle.std.specs.FinMap.{empty};
 ghost use Rattle.meta_journal.specs.Places.{meta_key};
+ghost use Rattle.meta_store.specs.History.{history as told_by};
+ghost use Rattle.meta_store.specs.State.{Legal};
 ghost use Rattle.meta_journal.specs.Spelling.{Spells, CanSpell};
-ghost use Rattle.index_world.specs.Config.{read_config};
+ghost use Rattle.index_world.specs.Config.{read_config, reads};
 ghost use Rattle.meta_journal.specs.declared.entry.Entry.{Entry};
 ghost use Rattle.object_store.specs.Store.{State, with_object};
 ghost use Rattle.source_log.specs.Log.{Log, IsLog};
 ghost use Rattle.index_world.specs.Index.{IsIndexOf};
 ghost use Rattle.index_world.specs.Opened.{ObjectsFrom};
-ghost use Rattle.node_run.specs.Node.{Node, Line, Outcome};
+ghost use Rattle.root_search.specs.declared.outcome.SearchStep.TheVariants.{Replied};
+ghost use Rattle.search_api.specs.declared.reply.Reply.{Reply};
+ghost use Rattle.node_run.specs.Node.{Node, Line, StepClient, Outcome, client_said};
 ghost use Rattle.node_run.specs.Turns.{Turn, turns};
+ghost use Rattle.quick_node.specs.Deletes.{DeletesFrom};
+ghost use Rattle.quick_node.specs.Fronts.{GoesOnFrom, Known};
 ghost use Rattle.quick_node.specs.Once.{HoldsOnce, CoversAt, AreLeft};
 ghost use Rattle.quick_node.specs.Opening.{Outside, EndsBy, DriveFinds, ReportFinds, TellsFound};
 ghost use Rattle.quick_node.specs.Reading.{Ending, stopped, Reads};
@@ -39,13 +45,21 @@ pub fn a_new_index_enters()
         before.kept ≡ with_object (record { objects = empty; late = [] }) (meta_key 0) bytes → IsLog before.log → EntersAs (create_entry moment config ∷ []) before }
 {}
 
-/// Whatever lands and fails, the journal at entry is a prefix of each history that the last node's is a prefix of, and each
-/// reply with hits is the answer to what its client asked last, over one revision of that history.
-pub fn replies_with_hits_are_right()
-    ensures { (history exit : List Entry) (before : Before) (fresh : Node) → IsFresh before history fresh →
+/// Whatever lands and fails, the journal at entry is a prefix of each legal history that the last node's is a prefix of. Each
+/// reply with hits is the answer to what its client asked last, over one revision of that history, and each reply that a delete
+/// was done names the task that its line added to it.
+pub fn replies_are_right()
+    ensures { (history exit : List Entry) → Legal reads (told_by exit) → (before : Before) (fresh : Node) → IsFresh before history fresh →
         (end : End) (lines : List Line) (outcomes : List Outcome) (last : Node) → Lives before end fresh lines outcomes last →
         IsPrefixOf last.core.history exit →
-        IsPrefixOf history exit × AnswersFrom exit before.log (length history) [] lines outcomes }
+        IsPrefixOf history exit × AnswersFrom exit before.log (length history) [] lines outcomes × DeletesFrom exit (length history) [] lines outcomes }
+{}
+
+/// Behind a reply to a client, also to a delete, each later reply to it is over that revision or a later one.
+pub fn a_client_goes_on_from_its_replies()
+    ensures { (exit : List Entry) (log : Log) (least from : ℕ) (knowns : List Known) (name other : List ℕ) (reply : Reply) (lines : List Line) (outcomes : List Outcome) →
+        AnswersFrom exit log least knowns (StepClient name ∷ lines) (client_said other (Replied reply) ∷ outcomes) →
+        DeletesFrom exit from knowns (StepClient name ∷ lines) (client_said other (Replied reply) ∷ outcomes) → GoesOnFrom name reply.revision lines outcomes }
 {}
 
 /// An opened node answers one line more.

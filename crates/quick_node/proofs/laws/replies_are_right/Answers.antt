@@ -1,5 +1,5 @@
 use Rattle.quick_node.proofs.Living.{lives_follow}
-use Rattle.quick_node.proofs.laws.replies_with_hits_are_right.Goals as goal
+use Rattle.quick_node.proofs.laws.replies_are_right.Goals as goal
 
 pub returns : goal.returns
 returns c = lives_follow
