@@ -1,6 +1,7 @@
 //! The rows of what clients delete, in the words of the script.
 
-pub const DELETE_ROWS: &str = r#"row a delete adopts a Replace that lands in the next life, behind a plan
+pub const DELETE_ROWS: &str =
+    r#"row a delete adopts a Replace that lands in the next life, behind a plan
 log
 record p0 {"body":"red fox"}
 record p1 {"body":"red fox"}

@@ -1,6 +1,7 @@
 //! The rows of the delete worker beside the merger and the collector, in the words of the script.
 
-pub const DELETER_RACES: &str = r#"row a merge of records from before a delete and behind it, of which those from before are removed
+pub const DELETER_RACES: &str =
+    r#"row a merge of records from before a delete and behind it, of which those from before are removed
 log
 record p0 {"body":"red fox"}
 record p1 {"body":"red fox"}

@@ -1,6 +1,7 @@
 //! The rows of the delete worker, as src/script.rt has those of the other lines.
 
-pub const DELETER_ROWS: &str = r#"row a record staged before a delete is removed, and one staged behind it stays
+pub const DELETER_ROWS: &str =
+    r#"row a record staged before a delete is removed, and one staged behind it stays
 log
 record p0 {"body":"red fox"}
 record p1 {"body":"red fox"}

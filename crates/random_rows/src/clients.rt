@@ -225,12 +225,7 @@ impl Clients {
         Ok(())
     }
 
-    fn judge_answer(
-        &self,
-        plain: &Plain,
-        entries: &[Entry],
-        answer: &Answer,
-    ) -> Result<(), Wrong> {
+    fn judge_answer(&self, plain: &Plain, entries: &[Entry], answer: &Answer) -> Result<(), Wrong> {
         let Some(first) = entries.get(..answer.revision as usize) else {
             return Err(Wrong::seen(self.alloc, "behind the journal:", answer.text.as_str()));
         };

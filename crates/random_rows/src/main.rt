@@ -74,7 +74,9 @@ fn main(rt: HostRuntime) -> io::Result<()> {
         println!(rt;
             "{deletes} deletes, {raises} raises, {removals} removals, {removed} of {documents} documents removed"
         )?;
-        println!(rt; "{parted} schedules in which some documents were removed and others were left")?;
+        println!(rt;
+            "{parted} schedules in which some documents were removed and others were left"
+        )?;
     }
     Ok(())
 }
