@@ -49,15 +49,22 @@ def of_range(low):
     return Ask(f"size:[{low} TO {low + 49}]", lambda words, size: low <= size <= low + 49)
 
 
+def words_of(ranked, count):
+    """Words that stand in one record of some thousand each, where there are so many."""
+    first = min(1000, len(ranked) // 2)
+    return [word for word, _ in ranked[first:first + count]]
+
+
 def mixed(records, ranked, count):
     """Deletes of four kinds by turns."""
+    rare, common = words_of(ranked, count), [word for word, _ in ranked]
     long = [it["body"].split() for it in records if len(it["body"].split()) > 1]
     made = []
     for number in range(count):
         kinds = (
-            lambda: of_word(ranked[1000 + number][0]),
-            lambda: of_two(ranked[number][0], ranked[number + 100][0]),
-            lambda: of_phrase(tuple(long[number * 7][:2])),
+            lambda: of_word(rare[number]),
+            lambda: of_two(common[number], common[number + 100]),
+            lambda: of_phrase(tuple(long[number * 7 % len(long)][:2])),
             lambda: of_range(number * 700),
         )
         made.append(kinds[number % len(kinds)]())
@@ -181,7 +188,7 @@ def main():
         records = list(measure.log_records(args.docs, args.seed))
         _, ranked = measure.common_words(records, 1)
         indexing = made_index(path, source, records)
-        by_word = [of_word(ranked[1000 + number][0]) for number in range(args.tasks)]
+        by_word = [of_word(word) for word in words_of(ranked, args.tasks)]
         print(f"Indexing took {indexing:.2f} microseconds a record.\n")
         print("| tasks | removed | ms a delete | seconds of the delete worker | microseconds a record | MB made | peak MB |")
         print("|---|---|---|---|---|---|---|")
