@@ -93,6 +93,19 @@ same 'its row' "$(poltyqen splits | awk '$2 == "published" && $8 == 1' | wc -l)"
 same 'no more to merge' "$(tail -n 1 outcomes)" 'merger nothing'
 same 'the same behind the merge' "$(asked '{"search":{"query":"*","max_hits":0}}' | field 'r["num_hits"]')" "$(told 'len(records)')"
 
+# A client deletes a section, and a delete worker removes it.
+libs='{"search":{"query":"section:libs","max_hits":0}}'
+gone=$(told 'sum(r["section"] == "libs" for r in records)')
+same 'a delete' "$(printf '%s\n' 'client a {"delete":{"query":"section:libs"}}' 'client a' | poltyqen drive | tail -n 1 | field 'r["opstamp"]')" 1
+same 'found until it is done' "$(asked "$libs" | field 'r["num_hits"]')" "$gone"
+published=$(poltyqen splits | awk '$2 == "published"' | wc -l)
+lines_of deleter 200 | poltyqen drive > outcomes
+same 'each split is planned' "$(grep -c planned outcomes)" "$published"
+same 'no more to delete' "$(tail -n 1 outcomes)" 'deleter nothing'
+same 'what splits says of it' "$(poltyqen splits | awk '$2 == "published"' | grep -c ':0:1')" "$published"
+same 'found no more' "$(asked "$libs" | field 'r["num_hits"]')" 0
+same 'the others are left' "$(asked '{"search":{"query":"*","max_hits":0}}' | field 'r["num_hits"]')" "$(told "len(records) - $gone")"
+
 # The log grows, and the program is killed while it indexes.
 cp demo/logs/packages more
 for _ in $(seq 40); do cat more; done >> demo/logs/packages
@@ -105,7 +118,7 @@ done
 yes 'indexer 0' | head -n 2000 | poltyqen drive > outcomes || true
 same 'caught up behind the kills' "$(tail -n 20 outcomes | grep -c caughtup | awk '{print ($1 > 0)}')" 1
 lines=$(wc -l < demo/logs/packages)
-same 'describe behind the kills' "$(poltyqen describe | tail -n 2 | tr '\n' ';')" "docs $(told 'len(records)') rejected $(told 'refused');checkpoint packages $lines;"
-same 'each record once' "$(asked '{"search":{"query":"*","max_hits":0}}' | field 'r["num_hits"]')" "$(told 'len(records)')"
+same 'describe behind the kills' "$(poltyqen describe | tail -n 2 | tr '\n' ';')" "docs $(told "len(records) - $gone") rejected $(told 'refused');checkpoint packages $lines;"
+same 'each record once' "$(asked '{"search":{"query":"*","max_hits":0}}' | field 'r["num_hits"]')" "$(told "len(records) - $gone")"
 same 'words that are no command' "$(poltyqen frobnicate < /dev/null || true)" 'error 1 badwords'
 printf 'all as the tutorial says\n'

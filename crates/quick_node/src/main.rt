@@ -184,6 +184,12 @@ fn main(rt: HostRuntime) -> ExitCode {
 #[cfg(test)]
 mod collector_rows;
 #[cfg(test)]
+mod delete_rows;
+#[cfg(test)]
+mod deleter_races;
+#[cfg(test)]
+mod deleter_rows;
+#[cfg(test)]
 mod merger_rows;
 #[cfg(test)]
 mod report_rows;

@@ -5,8 +5,9 @@
 //! `word` a word more. `log` adds a log, and `record` a record at its end. `failkey`, `failcall`, `failread`, `failwrite` and
 //! `faillog` make the create of a key, or the call with a number, fail, of a create with when it lands; `room` bounds the output.
 //! `>` is a line of the input, and `<` one that must be written; `>>` and `<<` are the same without a line feed; `config` is the
-//! configuration of an index, behind a line of its own if there is one. `run` does the command with this input, and compares what
-//! was written, the status, and the counts of faults; what stands then is the store of a second life.
+//! configuration of an index, behind a line of its own if there is one. `clients` starts so many clients anew, and `deletes` lets
+//! one delete so often, with what is written. `run` does the command with this input, and compares what was written, the status,
+//! and the counts of faults; what stands then is the store of a second life.
 
 pub const ROWS: &str = r#"row two hits
 log
@@ -634,7 +635,7 @@ log
 > client a {"search":{"query":"*"}}
 > client a
 > client a
-> client a {"delete":{"query":"fox"}}
+> client a {"remove":{"query":"fox"}}
 > client a
 > client a {"search":{"query":"size:[1 TO"}}
 > client a
@@ -648,7 +649,7 @@ log
 < a planned 1 0
 < {"aggregations":{},"client":"a","hits":[],"num_hits":0,"revision":1}
 < a opened
-< {"client":"a","error":{"kind":"UnknownKey","name":"delete"},"revision":1}
+< {"client":"a","error":{"kind":"UnknownKey","name":"remove"},"revision":1}
 < a opened
 < {"client":"a","error":{"at":10,"kind":"Syntax"},"revision":1}
 < a opened

@@ -1,6 +1,9 @@
 //! Rows of the commands, from scripts, and a table of failing store calls.
 
 use crate::collector_rows::COLLECTOR_ROWS;
+use crate::delete_rows::DELETE_ROWS;
+use crate::deleter_races::DELETER_RACES;
+use crate::deleter_rows::DELETER_ROWS;
 use crate::merger_rows::MERGER_ROWS;
 use crate::report_rows::REPORT_ROWS;
 use crate::script::ROWS;
@@ -24,6 +27,9 @@ use std::{mem, str};
 // The configuration of the index that is made: two fields of texts, of which `body` is asked by a clause without a field.
 const CONFIG: &str =
     "version = \"0.9\"\nindex_id = \"logs\"\n[doc_mapping]\nmode = \"strict\"\n[[doc_mapping.field_mappings]]\nname = \"body\"\ntype = \"text\"\nrecord = \"position\"\n[[doc_mapping.field_mappings]]\nname = \"level\"\ntype = \"text\"\ntokenizer = \"raw\"\nfast = true\n[indexing_settings.merge_policy]\ntype = \"stable_log\"\nmin_level_num_docs = 100\nmerge_factor = 2\nmax_merge_factor = 4\n[search_settings]\ndefault_search_fields = [\"body\"]\n[upkeep]\nstaged_grace_secs = 200\ndeletion_grace_secs = 100\n";
+
+// A client deletes.
+const DELETE: &str = "client d {\"delete\":{\"query\":\"fox\"}}\nclient d\n";
 
 // The bytes of a Create of that configuration, at moment 0.
 fn new_entry(alloc: Global) -> Result<Bytes, AllocError> {
@@ -192,6 +198,7 @@ impl Row {
             "config" => add_config(&mut self.schedule, rest),
             "long" => add_long(&mut self.schedule, rest),
             "clients" => self.restart_clients(alloc, rest),
+            "deletes" => self.delete_foxes(alloc, rest),
             _ => Err(Fail::new("no line of a script")),
         }
     }
@@ -225,6 +232,20 @@ impl Row {
         add_line(&mut self.schedule, name)?;
         add_text(&mut self.expected, name)?;
         add_line(&mut self.expected, " restarted")
+    }
+
+    // A client deletes so often, each time by an entry more behind the one that made the index.
+    fn delete_foxes(&mut self, alloc: Global, rest: &str) -> Result<(), Fail> {
+        for opstamp in 1..number_of(rest)?.saturating_add(1) {
+            let revision = opstamp.saturating_add(1);
+            add_text(&mut self.schedule, DELETE)?;
+            add_line(&mut self.expected, "d opened")?;
+            let reply = format!(in alloc;
+                "{{\"client\":\"d\",\"opstamp\":{opstamp},\"revision\":{revision}}}"
+            )?;
+            add_line(&mut self.expected, reply.as_str())?;
+        }
+        Ok(())
     }
 
     fn input(&self, alloc: Global) -> Result<MemorySource, Fail> {
@@ -554,6 +575,21 @@ fn rows_of_the_collector(rt: HostRuntime) -> Result<(), Fail> {
 #[test]
 fn rows_of_the_merger(rt: HostRuntime) -> Result<(), Fail> {
     do_rows(&rt, rt.alloc(), MERGER_ROWS, 11)
+}
+
+#[test]
+fn rows_of_deletes(rt: HostRuntime) -> Result<(), Fail> {
+    do_rows(&rt, rt.alloc(), DELETE_ROWS, 22)
+}
+
+#[test]
+fn rows_of_the_delete_worker(rt: HostRuntime) -> Result<(), Fail> {
+    do_rows(&rt, rt.alloc(), DELETER_ROWS, 10)
+}
+
+#[test]
+fn rows_of_the_delete_worker_beside_others(rt: HostRuntime) -> Result<(), Fail> {
+    do_rows(&rt, rt.alloc(), DELETER_RACES, 10)
 }
 
 const SCHEDULE: &str =

@@ -1,9 +1,12 @@
 //! A schedule that is played: lines in any order over a node, in lives with failing calls and one without.
 
-use crate::clients::{Clients, name_of};
+use crate::asked::Asked;
+use crate::clients::{Clients, Request, name_of};
+use crate::counts::Counts;
 use crate::dice::Dice;
 use crate::failing_store::FailingStore;
-use crate::plain::{Plain, Query, Shown};
+use crate::plain::Plain;
+use crate::shown::Shown;
 use crate::wrong::Wrong;
 use clock_time::ScriptClock;
 use index_world::{Unopened, World, WorldError};
@@ -17,7 +20,7 @@ use std::thread::Threads;
 
 // Small splits, so that there are many, of which two or three are merged; short times of grace.
 const CONFIG: &str =
-    "version = \"0.9\"\nindex_id = \"logs\"\n[doc_mapping]\nmode = \"strict\"\n[[doc_mapping.field_mappings]]\nname = \"body\"\ntype = \"text\"\nrecord = \"position\"\n[indexing_settings]\nsplit_num_docs_target = 3\n[indexing_settings.merge_policy]\ntype = \"stable_log\"\nmin_level_num_docs = 100\nmerge_factor = 2\nmax_merge_factor = 3\n[search_settings]\ndefault_search_fields = [\"body\"]\n[upkeep]\nstaged_grace_secs = 40\ndeletion_grace_secs = 30\n";
+    "version = \"0.9\"\nindex_id = \"logs\"\n[doc_mapping]\nmode = \"strict\"\ntimestamp_field = \"ts\"\n[[doc_mapping.field_mappings]]\nname = \"body\"\ntype = \"text\"\nrecord = \"position\"\n[[doc_mapping.field_mappings]]\nname = \"ts\"\ntype = \"datetime\"\nfast = true\n[indexing_settings]\nsplit_num_docs_target = 3\n[indexing_settings.merge_policy]\ntype = \"stable_log\"\nmin_level_num_docs = 100\nmerge_factor = 2\nmax_merge_factor = 3\n[search_settings]\ndefault_search_fields = [\"body\"]\n[upkeep]\nstaged_grace_secs = 40\ndeletion_grace_secs = 30\n";
 
 const DELETION_GRACE: u64 = 30;
 
@@ -44,15 +47,6 @@ pub struct Schedule {
     clients: Clients,
     indexers: u64,
     moment: u64,
-}
-
-/// What a schedule came to.
-#[derive(Clone, Copy)]
-pub struct Played {
-    pub entries: u64,
-    pub answers: u64,
-    pub faults: u64,
-    pub merges: u64,
 }
 
 // What a node answers to a line.
@@ -161,7 +155,7 @@ impl Schedule {
     fn work_line(&mut self) -> Result<String, Wrong> {
         let alloc = self.alloc;
         let indexer = self.dice.below(self.indexers);
-        let text = match self.dice.below(40) {
+        let text = match self.dice.below(54) {
             0..=19 => format!(in alloc; "indexer {indexer}")?,
             20..=23 => {
                 self.moment = self.moment.saturating_add(self.dice.below(15));
@@ -170,8 +164,10 @@ impl Schedule {
             }
             24..=29 => String::from_str(alloc, "collector")?,
             30..=36 => String::from_str(alloc, "merger")?,
-            37 => format!(in alloc; "restart indexer {indexer}")?,
-            38 => String::from_str(alloc, "restart merger")?,
+            37..=49 => String::from_str(alloc, "deleter")?,
+            50 => format!(in alloc; "restart indexer {indexer}")?,
+            51 => String::from_str(alloc, "restart merger")?,
+            52 => String::from_str(alloc, "restart deleter")?,
             _ => self.assign_line(indexer)?,
         };
         Ok(text)
@@ -208,12 +204,16 @@ impl Schedule {
         let alloc = self.alloc;
         let number = self.dice.below(3) as usize;
         let name = name_of(number);
-        match self.dice.below(12) {
+        match self.dice.below(13) {
             0..=3 => {
-                let query = Query::drawn(&mut self.dice);
-                self.ask(rt, node, number, query)
+                let asked = Asked::of_search(&mut self.dice);
+                self.ask(rt, node, number, Request::Search(asked))
             }
             4 => {
+                let asked = Asked::of_delete(&mut self.dice);
+                self.ask(rt, node, number, Request::Delete(asked))
+            }
+            5 => {
                 self.clients.restart_client(number);
                 let line = format!(in alloc; "restart client {name}")?;
                 mem::drop(answered(rt, alloc, node, line.as_str())?);
@@ -228,18 +228,30 @@ impl Schedule {
         rt: &Rt,
         node: &mut Node,
         number: usize,
-        query: Query,
+        request: Request,
     ) -> Result<(), Wrong> {
-        let name = name_of(number);
-        let text = query.text(self.alloc)?;
-        let line = format!(in self.alloc;
-            "client {name} {{\"search\":{{\"query\":\"{text}\",\"max_hits\":100}}}}"
-        )?;
+        let line = self.asking(number, request)?;
         let said = answered(rt, self.alloc, node, line.as_str())?;
         if said.ends_with(" opened") {
-            self.clients.ask(number, query);
+            self.clients.ask(number, request)?;
         }
         Ok(())
+    }
+
+    fn asking(&self, number: usize, request: Request) -> Result<String, Wrong> {
+        let name = name_of(number);
+        match request {
+            Request::Search(asked) => {
+                let keys = asked.text(self.alloc)?;
+                Ok(format!(in self.alloc;
+                    "client {name} {{\"search\":{{{keys},\"max_hits\":100}}}}"
+                )?)
+            }
+            Request::Delete(asked) => {
+                let keys = asked.text(self.alloc)?;
+                Ok(format!(in self.alloc; "client {name} {{\"delete\":{{{keys}}}}}")?)
+            }
+        }
     }
 
     fn step_client<Rt: Threads + Sync>(
@@ -307,19 +319,38 @@ impl Schedule {
         Err(Wrong::seen(self.alloc, line, "never ends"))
     }
 
-    // All is indexed, merged and collected, and found by a search.
+    // A client deletes, and a delete is answered.
+    fn delete<Rt: Threads + Sync>(&mut self, rt: &Rt, node: &mut Node) -> Result<(), Wrong> {
+        let asked = Asked::of_delete(&mut self.dice);
+        let before = self.clients.deleted();
+        self.ask(rt, node, 1, Request::Delete(asked))?;
+        self.step_client(rt, node, 1)?;
+        if self.clients.deleted() > before {
+            Ok(())
+        } else {
+            Err(Wrong::seen(self.alloc, "a delete", "is not answered"))
+        }
+    }
+
+    // All is indexed, deleted, merged and collected, and found by a search. Behind a merge there is nothing to delete.
     fn calm<Rt: Threads + Sync>(&mut self, rt: &Rt, node: &mut Node) -> Result<(), Wrong> {
         for indexer in 0..self.indexers {
             let line = format!(in self.alloc; "indexer {indexer}")?;
             self.rest(rt, node, line.as_str(), " caughtup")?;
         }
+        self.delete(rt, node)?;
+        self.rest(rt, node, "deleter", " nothing")?;
         self.rest(rt, node, "merger", " nothing")?;
+        let said = answered(rt, self.alloc, node, "deleter")?;
+        if !said.ends_with(" nothing") {
+            return Err(Wrong::seen(self.alloc, "behind merges:", said.as_str()));
+        }
         self.moment = self.moment.saturating_add(100);
         let moment = self.moment;
         let line = format!(in self.alloc; "at {moment}")?;
         mem::drop(answered(rt, self.alloc, node, line.as_str())?);
         self.rest(rt, node, "collector", " nothing")?;
-        self.ask(rt, node, 0, Query::All)?;
+        self.ask(rt, node, 0, Request::Search(Asked::all()))?;
         for _ in 0..MOST_LINES {
             let before = self.clients.answered();
             self.step_client(rt, node, 0)?;
@@ -347,7 +378,7 @@ impl Schedule {
     }
 
     // A life without failing calls, behind which each record is shown, and each answer is the plain list's.
-    fn end<Rt: Threads + Sync>(&mut self, rt: &Rt, store: FailingStore) -> Result<Played, Wrong> {
+    fn end<Rt: Threads + Sync>(&mut self, rt: &Rt, store: FailingStore) -> Result<Counts, Wrong> {
         let mut store = store;
         store.set_odds(0);
         let faults = store.faults();
@@ -367,25 +398,33 @@ impl Schedule {
         self.judge(store, faults)
     }
 
-    fn judge(&mut self, store: FailingStore, faults: u64) -> Result<Played, Wrong> {
+    fn judge(&mut self, store: FailingStore, faults: u64) -> Result<Counts, Wrong> {
         let mut store = store;
         let entries = self.journal(&mut store)?;
         mem::drop(store);
         self.clients.judge(&self.plain, entries.as_slice())?;
         let shown = Shown::by(self.alloc, entries.as_slice())?;
         if !self.plain.is_shown(&shown) {
-            return Err(Wrong::seen(self.alloc, "not each record", "is shown"));
+            return Err(Wrong::seen(self.alloc, "not each record", "is shown and asked"));
         }
-        Ok(Played {
+        let documents = self.plain.documents();
+        let left = self.plain.found(&shown, Asked::all())?.count;
+        Ok(Counts {
             entries: entries.len() as u64,
             answers: self.clients.answered() as u64,
             faults,
-            merges: shown.merges(),
+            merges: shown.kinds.merges,
+            deletes: shown.kinds.deletes,
+            raises: shown.kinds.raises,
+            removals: shown.kinds.removals,
+            documents,
+            removed: documents.saturating_sub(left),
+            parted: u64::from(0 < left && left < documents),
         })
     }
 
     /// Plays two lives with failing calls and one without.
-    pub fn played<Rt: Threads + Sync>(&mut self, rt: &Rt) -> Result<Played, Wrong> {
+    pub fn played<Rt: Threads + Sync>(&mut self, rt: &Rt) -> Result<Counts, Wrong> {
         let seed = self.dice.below(u64::MAX);
         let store = new_index(self.alloc, seed)?;
         let store = self.live(rt, store)?;
