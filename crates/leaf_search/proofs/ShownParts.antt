@@ -94,13 +94,13 @@ picked_long ds (n ∷ ns) below = let at = stands ds n below.0 in rw (at.here) (
 enough_shown : (o : Option HitOrder) (wanted : ℕ) (ds : List Placed) (ns : List ℕ) → AllByRecursion (λ n. n < length ds) ns → min wanted (length ns) ≤ length (shown o wanted ds ns)
 enough_shown o wanted ds ns below =
     let b = comes_before o in
-    let near = picked (shown o wanted ds ns) ds in
-    let all = picked ns ds in
-    let same = ap (λ (xs : List Placed). length xs) (shown_firsts o wanted ds ns below) in
-    let one = length-take wanted (sorted_by b near) in
-    let other = length-take wanted (sorted_by b all) in
-    let near_long = length_sorted b near in
-    let all_long = length_sorted b all in
+    let near : List Placed = picked (shown o wanted ds ns) ds in
+    let all : List Placed = picked ns ds in
+    let same : length (take wanted (sorted_by b near)) ≡ length (take wanted (sorted_by b all)) = ap (λ (xs : List Placed). length xs) (shown_firsts o wanted ds ns below) in
+    let one : length (take wanted (sorted_by b near)) ≡ min wanted (length (sorted_by b near)) = length-take wanted (sorted_by b near) in
+    let other : length (take wanted (sorted_by b all)) ≡ min wanted (length (sorted_by b all)) = length-take wanted (sorted_by b all) in
+    let near_long : length (sorted_by b near) ≡ length near = length_sorted b near in
+    let all_long : length (sorted_by b all) ≡ length all = length_sorted b all in
     let short = picked_short ds (shown o wanted ds ns) in
     let long = picked_long ds ns below in
     omega arith

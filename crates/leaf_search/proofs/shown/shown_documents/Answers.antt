@@ -70,7 +70,7 @@ returns-then-len-gt-MOST_APART c = record {
       let s = c.args.schema.now in
       let r = c.args.request.now in
       let items = c.in_ok-shown.shown.items in
-      let same : items ≡ shown_of s r documents = c.in_ok-shown.ensures.only documents p part ask.order ∙ ap (λ (ns : List ℕ). shown r.order r.wanted documents ns) (c.as_slice.ensures.value ∙ c.in_ok-numbers.ensures.only documents p part ask) in
+      let same : items ≡ shown_of s r documents = c.in_ok-shown.ensures.only documents p part ask.order ∙ ap (λ (ns : List ℕ). shown r.order r.wanted documents ns) (c.as_slice-2.ensures.value ∙ c.in_ok-numbers.ensures.only documents p part ask) in
       few_false s r documents items same (omega (arith, c.len.ensures, c.in_ok-shown.shown.ok.0, c.if-len-gt-MOST_APART.true));
 }
 
@@ -80,6 +80,6 @@ returns c = record {
       let s = c.args.schema.now in
       let r = c.args.request.now in
       let items = c.in_ok-shown.shown.items in
-      let same : items ≡ shown_of s r documents = c.in_ok-shown.ensures.only documents p part ask.order ∙ ap (λ (ns : List ℕ). shown r.order r.wanted documents ns) (c.as_slice.ensures.value ∙ c.in_ok-numbers.ensures.only documents p part ask) in
+      let same : items ≡ shown_of s r documents = c.in_ok-shown.ensures.only documents p part ask.order ∙ ap (λ (ns : List ℕ). shown r.order r.wanted documents ns) (c.as_slice-2.ensures.value ∙ c.in_ok-numbers.ensures.only documents p part ask) in
       few_true s r documents items same (omega (arith, c.len.ensures, c.in_ok-shown.shown.ok.0, c.if-len-gt-MOST_APART.false));
 }
