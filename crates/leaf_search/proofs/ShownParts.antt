@@ -107,7 +107,7 @@ enough_shown o wanted ds ns below =
 
 pub many_false : (s : Schema) (r : LeafRequest) (ds : List Placed) → All (λ n. n < length ds) (numbers_of (passes s r) ds) → 256 < r.wanted → 256 < length (numbers_of (passes s r) ds) → are_few s r ds ≡ false
 many_false s r ds below wanted many =
-    let enough = enough_shown r.order r.wanted ds (numbers_of (passes s r) ds) (recursion_from_All (λ (n : ℕ). n < length ds) (numbers_of (passes s r) ds) below) in
+    let enough : min r.wanted (length (numbers_of (passes s r) ds)) ≤ length (shown_of s r ds) = enough_shown r.order r.wanted ds (numbers_of (passes s r) ds) (recursion_from_All (λ (n : ℕ). n < length ds) (numbers_of (passes s r) ds) below) in
     le_false (length (shown_of s r ds)) 256 (omega arith)
 
 -- what is said of the documents that may be shown
