@@ -100,4 +100,3 @@ replies_from exit lower from next known reply (Refused refusal) le d = (d.0, cau
 pub deletes_from : (exit : List Entry) (lower from next : ℕ) (knowns : List Known) (line : Line) (o : Outcome) → lower ≤ from → Deletes exit from next knowns line o → Deletes exit lower next knowns line o
 deletes_from exit lower from next knowns line (client_said who (Replied reply)) le d = (d.0, d.1, replies_from exit lower from next (known_of d.0 knowns) reply reply.said le d.2)
 deletes_from exit lower from next knowns line o le d = tt
-
