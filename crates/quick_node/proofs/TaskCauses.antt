@@ -1,7 +1,7 @@
 -- A task is refused as one too many only where so many stand.
 use Rattle.std.proofs.Common.{◌≡◌, ℕ, ◌+◌, ◌≤◌, ◌==◌, Bool, true, false, List, length, refl, arith}
 use Rattle.std.proofs.lemmas.Bool.{ltb-false}
-use Rattle.std.specs.Prelude.{Option, Some, None, Result, Ok, Err, if◌then◌else◌, nat_lt}
+use Rattle.std.specs.Prelude.{Option, Some, None, Ok, Err, if◌then◌else◌, nat_lt}
 use Rattle.doc_value.specs.declared.facts.TimeRange.{TimeRange}
 use Rattle.meta_journal.specs.declared.entry.Act.{Act}
 use Rattle.meta_journal.specs.declared.entry.Act.TheVariants.{Task}
@@ -13,8 +13,6 @@ use Rattle.meta_store.specs.State.{state_of}
 use Rattle.meta_store.specs.Tasks.{tasks_of}
 use Rattle.meta_store.specs.declared.config.Config.{Config}
 use Rattle.meta_store.specs.declared.refusal.Refusal.TheVariants.{MomentBack, NotNext, TooManyTasks}
-use Rattle.query_ast.specs.Sought.{Sought}
-use Rattle.query_reader.specs.declared.refusal.QueryError.{QueryError}
 use Rattle.source_checkpoint.specs.Deltas.{then_answer}
 use Rattle.index_world.specs.Calls.{answer_behind}
 use Rattle.index_world.specs.Config.{reads}
@@ -48,9 +46,8 @@ module _ (es : List Entry) (moment opstamp : ℕ) (text : List ℕ) (fields : Li
       by true e = cc
       by false e = cc
 
-  read_away : (r : Result Sought QueryError) → TooMany (answer_to_task r) → ⊥
-  read_away (Ok query) e = cc
-  read_away (Err error) e = cc
+  read_away : (config : Config) → TooMany (answer_to_task (query_said reads (Some config) act)) → ⊥
+  read_away config = elim (query_said reads (Some config) act) as (λ r. TooMany (answer_to_task r) → ⊥) [ Ok query ↦ λ e. cc | Err error ↦ λ e. cc ]
 
   tasks_stand : TooMany (answer_to_tasks (length (tasks_of reads (history es)))) → Stand
   tasks_stand = by (nat_lt (length (tasks_of reads (history es))) 10000) refl
@@ -66,7 +63,7 @@ module _ (es : List Entry) (moment opstamp : ℕ) (text : List ℕ) (fields : Li
   configured_stand None e = absurd cc
   configured_stand (Some config) e =
       behind (answer_to_next opstamp (last_opstamp (history es) + 1)) _ (next_away opstamp (last_opstamp (history es) + 1))
-      (behind (answer_to_task (query_said reads (Some config) act)) _ (read_away (query_said reads (Some config) act)) tasks_stand) e
+      (behind (answer_to_task (query_said reads (Some config) act)) _ (read_away config) tasks_stand) e
 
   pub tasks_too_many : TooMany (answer_behind es (record { moment = moment; act = act })) → Stand
   tasks_too_many e = behind (answer_to_moment moment (moment_of (history es))) _ (moment_away moment (moment_of (history es))) (configured_stand (config_of reads (history es))) e
