@@ -50,7 +50,7 @@ module _ (name : List ℕ) (front : ℕ) where
               Replies exit from next (known_of deletes.0 knowns) reply said → front ≤ reply.revision
           by (Found count hits aggregations) a r = from_known a.0 a.1 a.2.front
           by (Deleted opstamp) a r = from_known deletes.0 deletes.1 (let above = r.front in omega (arith, above))
-          by (Refused refusal) a r = from_known deletes.0 deletes.1 r.front
+          by (Refused refusal) a r = from_known deletes.0 deletes.1 r.0.front
 
       here : (line : Line) (o : Outcome) → AnswersOne exit log least knowns line o → Deletes exit from next knowns line o → IsOnFrom name front line o
       here (StepClient who) (client_said other (Replied reply)) answers deletes = replied who other reply answers deletes

@@ -1,6 +1,8 @@
 pub mod Feeding
 pub mod Written
 pub mod Opened
+mod TaskCauses
+mod Replying
 mod Searching
 pub mod Fronts
 pub mod Living

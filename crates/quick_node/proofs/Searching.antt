@@ -4,13 +4,7 @@
 use Rattle.std.proofs.Common.{◌≡◌, ℕ, ◌<◌, ◌≤◌, ◌+◌, List, [], ◌∷◌, ◌++◌, refl, sym, ap, ◌∙◌, subst, Bool, true, false, length, arith, take, map, append_assoc}
 use Rattle.std.proofs.lemmas.List.{length-append, take-append-le, take_all}
 use Rattle.std.proofs.lemmas.Slice.Eq.{bytes_eq-Decides}
-use Rattle.std.specs.Prelude.{Option, Some, None, Result, Ok, Err, ⊤, if◌then◌else◌, bytes_eq, nat_lt}
-use Rattle.agg_model.specs.Answers.{most_buckets}
-use Rattle.agg_nested.specs.Answers.{all_buckets, nested_answer, told}
-use Rattle.agg_nested.specs.declared.answer.NestedAnswer.{NestedAnswer}
-use Rattle.doc_tallies.specs.Picked.{docs_of}
-use Rattle.doc_value.specs.declared.schema.Schema.{Schema}
-use Rattle.split_bundle.specs.declared.placed.Placed.{Placed}
+use Rattle.std.specs.Prelude.{Option, Some, None, Result, Ok, Err, ⊤, if◌then◌else◌, bytes_eq}
 use Rattle.meta_journal.specs.declared.entry.Entry.{Entry}
 use Rattle.meta_store.proofs.Numbers.{history-snoc}
 use Rattle.meta_store.specs.History.{history, last_opstamp}
@@ -29,7 +23,7 @@ use Rattle.index_world.proofs.Numbers.{revision_is}
 use Rattle.indexing_run.specs.Outcomes.{IndexerOutcome}
 use Rattle.indexing_run.specs.Places.{Place, idle, reading, staged, uploaded, Indexer}
 use Rattle.indexing_run.specs.Steps.{step_indexer}
-use Rattle.root_search.specs.Answer.{answer, matching, printed, shown}
+use Rattle.root_search.specs.Answer.{answer}
 use Rattle.root_search.specs.Requests.{ask_of, asked_of}
 use Rattle.root_search.specs.Steps.{Client, Request, no_request, opened, planned, Plan, Luck, Searched, delete_by, fault_refusal, opened_by, plan_by, plan_given, reply_with, state_refusal, trouble_replied, refused_over, fetch_by, fetched_each, config_at, config_in, next_step, step_request, or_short, step_client, answer_of, without_request}
 use Rattle.root_search.specs.declared.outcome.SearchStep.{SearchStep}
@@ -37,7 +31,6 @@ use Rattle.root_search.specs.declared.outcome.SearchStep.TheVariants.{Idle, Plan
 use Rattle.root_search.proofs.Steps.{as_asked, delete_core}
 use Rattle.search_api.specs.Resolved.{Asked, IsDelete, IsSearch, Search}
 use Rattle.search_api.specs.declared.reply.Refusal.{Refusal}
-use Rattle.search_api.specs.declared.reply.Refusal.TheVariants.{TooManyBuckets}
 use Rattle.search_api.specs.declared.reply.Reply.{Reply}
 use Rattle.search_api.specs.declared.reply.Said.{Said}
 use Rattle.search_api.specs.declared.reply.Said.TheVariants.{Found, Deleted, Refused}
@@ -58,12 +51,15 @@ use Rattle.node_run.proofs.CallMoves.{Grows, same_grows, appended_moves, asked_a
 use Rattle.node_run.proofs.CollectorMoves.{collector_moves}
 use Rattle.node_run.proofs.WorkerMoves.{worker_moves}
 use Rattle.node_run.proofs.Moving.{indexer_moves, client_moves, turns_later}
-use Rattle.quick_node.specs.Deletes.{Deletes, DeletesFrom, KeepsFront, Replies}
+use Rattle.node_run.proofs.Refusals.{OfText, asked_of_text}
+use Rattle.node_run.specs.Telling.{IsOfText}
+use Rattle.quick_node.specs.Deletes.{Deletes, DeletesFrom, HasCause, KeepsFront, Replies}
 use Rattle.quick_node.specs.Fronts.{Known, known_of, after_outcome, config_then}
 use Rattle.quick_node.specs.Serve.{IsPrefixOf, IfFound, AnswersOne, AnswersFrom}
 use Rattle.quick_node.proofs.EntryRows.{legal_before}
 use Rattle.quick_node.proofs.MergeCalls.{Appends, appended_says}
 use Rattle.quick_node.proofs.Onces.{configured_on}
+use Rattle.quick_node.proofs.Replying.{answer_told, deletes_from, fault_cause, state_cause, text_cause}
 
 same-true : (a b : List ℕ) → bytes_eq a b ≡ true → a ≡ b
 same-true a b = (bytes_eq-Decides a b).0
@@ -171,19 +167,6 @@ record Went (exit : List Entry) (log : Log) (least from : ℕ) (knowns : List Kn
 pub known_first : (name : List ℕ) (known : Known) (knowns : List Known) → known.name ≡ name → known_of name (known ∷ knowns) ≡ known
 known_first name known knowns e = rw (e, same-refl name)
 
--- an answer is no delete
-module _ (entries : List Entry) (least next : ℕ) (known : Known) (reply : Reply) (keeps : KeepsFront next known reply) where
-  buckets_told : (b : Bool) (many count : ℕ) (lines : List (List ℕ)) (results : List NestedAnswer) →
-      Replies entries least next known reply (if b then Refused (TooManyBuckets count) else Found many lines results)
-  buckets_told true many count lines results = keeps
-  buckets_told false many count lines results = tt
-
-  answer_told : (s : Schema) (search : Search) (documents : List Placed) → Replies entries least next known reply (answer s search documents)
-  answer_told s search documents =
-      let found = matching s search documents in
-      let count = all_buckets search.aggs (docs_of found) in
-      buckets_told (nat_lt most_buckets count) (length found) (told count) (printed s (shown search found)) (map (nested_answer (docs_of found)) search.aggs)
-
 module _ (exit : List Entry) (log : Log) (least from : ℕ) (knowns : List Known) (name : List ℕ) where
   abbrev StepWent : Searched → Type 0
   StepWent step = (s : SearchStep) → step.outcome ≡ Some s → Went exit log least from knowns name s step.client step.core
@@ -219,24 +202,24 @@ module _ (exit : List Entry) (log : Log) (least from : ℕ) (knowns : List Known
       record { client = a.client_name ∙ sym a.known_name; front = subst (λ f. f ≤ revision) (sym a.front) low; ends = high }
 
   refusal_went : (revision : ℕ) (refusal : Refusal) (client : Client) (core : Core) → Agrees exit least (length core.history) name (known_of name knowns) client →
-      client.front ≤ revision → revision ≤ length core.history → StepWent (reply_with revision (Refused refusal) client core)
-  refusal_went revision refusal client core a low high =
-      reply_went revision (Refused refusal) client core a high tt (keeps_front revision (Refused refusal) client core a low high)
+      client.front ≤ revision → revision ≤ length core.history → HasCause exit from (length core.history) refusal → StepWent (reply_with revision (Refused refusal) client core)
+  refusal_went revision refusal client core a low high cause =
+      reply_went revision (Refused refusal) client core a high tt (keeps_front revision (Refused refusal) client core a low high, cause)
 
   trouble_went : (revision : ℕ) (t : Trouble) (client : Client) (core : Core) → Agrees exit least (length core.history) name (known_of name knowns) client →
       client.front ≤ revision → revision ≤ length core.history → StepWent (trouble_replied revision t client core)
-  trouble_went revision (faulted fault) client core a low high = refusal_went revision (fault_refusal fault) client core a low high
+  trouble_went revision (faulted fault) client core a low high = refusal_went revision (fault_refusal fault) client core a low high (fault_cause exit from (length core.history) fault)
   trouble_went revision no_memory client core a low high = unsaid_went (without_request client) core
 
   refused_went : (revision : ℕ) (refusal : Refusal) (t : Trouble) (client : Client) (core : Core) → Agrees exit least (length core.history) name (known_of name knowns) client →
-      client.front ≤ revision → revision ≤ length core.history → StepWent (refused_over revision refusal t client core)
-  refused_went revision refusal (faulted fault) client core a low high = refusal_went revision refusal client core a low high
-  refused_went revision refusal no_memory client core a low high = unsaid_went (without_request client) core
+      client.front ≤ revision → revision ≤ length core.history → IsOfText refusal → StepWent (refused_over revision refusal t client core)
+  refused_went revision refusal (faulted fault) client core a low high h = refusal_went revision refusal client core a low high (text_cause exit from (length core.history) refusal h)
+  refused_went revision refusal no_memory client core a low high h = unsaid_went (without_request client) core
 
   plan_went : (r : Result ⊤ Trouble) (asked : Result Search Unanswered) (text : List ℕ) (client : Client) (core : Core) →
       Agrees exit least (length core.history) name (known_of name knowns) client → (known_of name knowns).text ≡ text →
-      asked_of (config_then (length core.history) exit) text ≡ as_asked asked → least ≤ length core.history → StepWent (plan_by r asked client core)
-  plan_went (Ok done) (Ok search) text client core a t w l =
+      asked_of (config_then (length core.history) exit) text ≡ as_asked asked → least ≤ length core.history → OfText asked → StepWent (plan_by r asked client core)
+  plan_went (Ok done) (Ok search) text client core a t w l h =
       let step = plan_by (Ok done) (Ok search) client core in
       said_went (Planned _ _) step.client core
       (record {
@@ -250,11 +233,12 @@ module _ (exit : List Entry) (log : Log) (least from : ℕ) (knowns : List Known
         answers = tt;
         deletes = tt;
       })
-  plan_went (Ok done) (Err (reasons.Refused refusal)) text client core a t w l = refusal_went (length core.history) refusal client core a a.bound (omega arith)
-  plan_went (Ok done) (Err (reasons.Memory e)) text client core a t w l = unsaid_went (without_request client) core
-  plan_went (Err trouble) (Ok search) text client core a t w l = trouble_went client.front trouble client core a (omega arith) a.bound
-  plan_went (Err trouble) (Err (reasons.Refused refusal)) text client core a t w l = refused_went client.front refusal trouble client core a (omega arith) a.bound
-  plan_went (Err trouble) (Err (reasons.Memory e)) text client core a t w l = unsaid_went (without_request client) core
+  plan_went (Ok done) (Err (reasons.Refused refusal)) text client core a t w l h =
+      refusal_went (length core.history) refusal client core a a.bound (omega arith) (text_cause exit from (length core.history) refusal h)
+  plan_went (Ok done) (Err (reasons.Memory e)) text client core a t w l h = unsaid_went (without_request client) core
+  plan_went (Err trouble) (Ok search) text client core a t w l h = trouble_went client.front trouble client core a (omega arith) a.bound
+  plan_went (Err trouble) (Err (reasons.Refused refusal)) text client core a t w l h = refused_went client.front refusal trouble client core a (omega arith) a.bound h
+  plan_went (Err trouble) (Err (reasons.Memory e)) text client core a t w l h = unsaid_went (without_request client) core
 
   fetch_went : (r : Result ⊤ Trouble) (plan : Plan) (number : ℕ) (more : List ℕ) (client : Client) (core : Core) →
       Agrees exit least (length core.history) name (known_of name knowns) client →
@@ -323,13 +307,13 @@ module _ (exit : List Entry) (log : Log) (least from : ℕ) (knowns : List Known
 
   -- a search that was read, or a refusal
   plans_went : (asked : Result Search Unanswered) (text : List ℕ) (luck : Luck) (client : Client) (core : Core) → asked_of (config_in core) text ≡ as_asked asked →
-      Agrees exit least (length core.history) name (known_of name knowns) client → (known_of name knowns).text ≡ text → Ready exit least core → IsPrefixOf core.history exit →
+      Agrees exit least (length core.history) name (known_of name knowns) client → (known_of name knowns).text ≡ text → Ready exit least core → IsPrefixOf core.history exit → OfText asked →
       StepWent (plan_given asked client (asked_and_looked luck.world core))
-  plans_went asked text luck client core word a t ready p =
+  plans_went asked text luck client core word a t ready p fits =
       let given = asked_and_looked luck.world core in
       let h : length core.history ≤ length given.core.history = longer core given.core (asked_and_looked_moves luck.world core).later.grows in
       plan_went given.answer asked text client given.core (agrees-more exit least (length core.history) (length given.core.history) name (known_of name knowns) client h a) t
-      (ap (λ config. asked_of config text) (seen_then core ready p (length given.core.history) h) ∙ word) (let low = ready.low in omega (arith, low, h))
+      (ap (λ config. asked_of config text) (seen_then core ready p (length given.core.history) h) ∙ word) (let low = ready.low in omega (arith, low, h)) fits
 
   -- a delete that was read: its task is the last entry, or there is none
   delete_went : (deletion : Deletion) (text : List ℕ) (r : Result ⊤ Unmade) (client : Client) (core after : Core) → Appends (task_act (ask_of deletion)) core r after →
@@ -368,29 +352,31 @@ module _ (exit : List Entry) (log : Log) (least from : ℕ) (knowns : List Known
   delete_went deletion text (Err (calls.refused refusal)) client core after made a t low up word p =
       refusal_went client.front (state_refusal refusal) client after (agrees-more exit least (length core.history) (length after.history) name (known_of name knowns) client up a) (omega arith)
       (let bound = a.bound in omega (arith, bound, up))
+      (state_cause exit after.history after.moment from (ask_of deletion) (front_of after p) (omega (arith, low, up)) refusal made.1)
   delete_went deletion text (Err (troubled trouble)) client core after made a t low up word p =
       trouble_went client.front trouble client after (agrees-more exit least (length core.history) (length after.history) name (known_of name knowns) client up a) (omega arith)
       (let bound = a.bound in omega (arith, bound, up))
 
   -- a text that was opened, by what it asks
-  opened_went : (asked : Result Asked Unanswered) (text : List ℕ) (luck : Luck) (client : Client) (core : Core) → asked_of (config_in core) text ≡ asked →
+  opened_went : (asked : Result Asked Unanswered) (text : List ℕ) (luck : Luck) (client : Client) (core : Core) → asked_of (config_in core) text ≡ asked → OfText asked →
       Agrees exit least (length core.history) name (known_of name knowns) client → (known_of name knowns).text ≡ text → from ≤ length core.history → Ready exit least core → IsPrefixOf core.history exit →
       IsPrefixOf (opened_by asked luck.world client core).core.history exit → StepWent (opened_by asked luck.world client core)
-  opened_went (Ok (IsSearch search)) text luck client core word a t low ready p q = plans_went (Ok search) text luck client core word a t ready p
-  opened_went (Ok (IsDelete deletion)) text luck client core word a t low ready p q =
+  opened_went (Ok (IsSearch search)) text luck client core word fits a t low ready p q = plans_went (Ok search) text luck client core word a t ready p tt
+  opened_went (Ok (IsDelete deletion)) text luck client core word fits a t low ready p q =
       let given = task_call (ask_of deletion) luck.world core in
       let up : length core.history ≤ length given.core.history = longer core given.core (appended_moves luck.world (task_act (ask_of deletion)) core).later.grows in
       delete_went deletion text given.answer client core given.core (appended_says (task_act (ask_of deletion)) luck.world core) a t low up
       (ap (λ config. asked_of config text) (seen_then core ready p (length given.core.history) up) ∙ word)
       (subst (λ (c : Core). IsPrefixOf c.history exit) (delete_core given.answer client given.core) q)
-  opened_went (Err reason) text luck client core word a t low ready p q = plans_went (Err reason) text luck client core word a t ready p
+  opened_went (Err (reasons.Refused refusal)) text luck client core word fits a t low ready p q = plans_went (Err (reasons.Refused refusal)) text luck client core word a t ready p fits
+  opened_went (Err (reasons.Memory e)) text luck client core word fits a t low ready p q = plans_went (Err (reasons.Memory e)) text luck client core word a t ready p tt
 
   request_went : (request : Request) (luck : Luck) (client : Client) (core : Core) →
       Agrees exit least (length core.history) name (known_of name knowns) client → OnRequest exit least (known_of name knowns) client.front (length core.history) request →
       from ≤ length core.history → Ready exit least core → IsPrefixOf core.history exit → IsPrefixOf (step_request request luck log client core).core.history exit →
       StepWent (step_request request luck log client core)
   request_went no_request luck client core a r low ready p q = said_went Idle client core (record { agrees = a; answers = tt; deletes = tt })
-  request_went (opened text) luck client core a r low ready p q = opened_went (asked_of (config_in core) text) text luck client core refl a r low ready p q
+  request_went (opened text) luck client core a r low ready p q = opened_went (asked_of (config_in core) text) text luck client core refl (asked_of_text (config_in core) text) a r low ready p q
   request_went (planned plan) luck client core a r low ready p q = next_went plan.unfetched luck plan client core a r p
 
   short_went : (b : Bool) (client : Client) (step : Searched) → StepWent step → StepWent (or_short b client step)
@@ -692,28 +678,6 @@ module _ (exit : List Entry) (least : ℕ) (knowns : List Known) (node : Node) (
 -- these lines are answered, and those of deletes behind so many entries
 abbrev AllAnswered : List Entry → Log → (least from : ℕ) → List Known → List Line → List Outcome → Type 0
 AllAnswered exit log least from knowns lines outcomes = AnswersFrom exit log least knowns lines outcomes × DeletesFrom exit from knowns lines outcomes
-
--- a line that begins earlier
-replies_from : (exit : List Entry) (lower from next : ℕ) (known : Known) (reply : Reply) (said : Said) → lower ≤ from → Replies exit from next known reply said → Replies exit lower next known reply said
-replies_from exit lower from next known reply (Found count hits aggregations) le d = tt
-replies_from exit lower from next known reply (Deleted opstamp) le d =
-    record {
-      client = d.client;
-      deletion = d.deletion;
-      asked = d.asked;
-      earlier = d.earlier;
-      moment = d.moment;
-      is = d.is;
-      stamp = d.stamp;
-      front = d.front;
-      begins = let low = d.begins in omega (arith, le, low);
-      ends = d.ends;
-    }
-replies_from exit lower from next known reply (Refused refusal) le d = d
-
-deletes_from : (exit : List Entry) (lower from next : ℕ) (knowns : List Known) (line : Line) (o : Outcome) → lower ≤ from → Deletes exit from next knowns line o → Deletes exit lower next knowns line o
-deletes_from exit lower from next knowns line (client_said who (Replied reply)) le d = (d.0, d.1, replies_from exit lower from next (known_of d.0 knowns) reply reply.said le d.2)
-deletes_from exit lower from next knowns line o le d = tt
 
 -- one line, and what is known behind it
 one_more : (exit : List Entry) (least from : ℕ) (knowns : List Known) (node last : Node) (line : Line) (lines : List Line) (o : Outcome) (os : List Outcome) →

@@ -2,7 +2,11 @@
 use Rattle.std.specs.Prelude.{◌≡◌, ℕ, ◌+◌, ◌<◌, ◌≤◌, List, [], ◌∷◌, ◌++◌, length, take, Ok}
 use Rattle.meta_journal.specs.declared.entry.Entry.{Entry}
 use Rattle.meta_store.specs.History.{history, last_opstamp}
+use Rattle.meta_store.specs.Tasks.{tasks_of}
+use Rattle.index_world.specs.Config.{reads}
 use Rattle.search_api.specs.Resolved.{IsDelete}
+use Rattle.search_api.specs.declared.reply.Refusal.{Refusal}
+use Rattle.search_api.specs.declared.reply.Refusal.TheVariants.{TooManyTasks}
 use Rattle.search_api.specs.declared.reply.Reply.{Reply}
 use Rattle.search_api.specs.declared.reply.Said.{Said}
 use Rattle.search_api.specs.declared.reply.Said.TheVariants.{Found, Deleted, Refused}
@@ -35,11 +39,17 @@ pub record KeepsFront (next : ℕ) (known : Known) (reply : Reply) : Type 0 wher
   pub front : known.front ≤ reply.revision
   pub ends : reply.revision ≤ next
 
+-- It is refused as one task too many only where at a revision of this line so many stand, 10,000 at least.
+abbrev pub HasCause : List Entry → (least next : ℕ) → Refusal → Type 0
+HasCause entries least next (TooManyTasks count) =
+    (revision : ℕ) × (least ≤ revision) × (revision ≤ next) × (count ≡ length (tasks_of reads (history (take revision entries)))) × (10000 ≤ count)
+HasCause entries least next refusal = Unit {0}
+
 -- A delete that is said to be done was done, and a refusal keeps the client's front. Of a reply with hits `IsAnswered` says so.
 abbrev pub Replies : List Entry → (least next : ℕ) → Known → Reply → Said → Type 0
 Replies entries least next known reply (Found count hits aggregations) = Unit {0}
 Replies entries least next known reply (Deleted opstamp) = IsDeleted entries least next known reply opstamp
-Replies entries least next known reply (Refused refusal) = KeepsFront next known reply
+Replies entries least next known reply (Refused refusal) = KeepsFront next known reply × HasCause entries least next refusal
 
 abbrev pub Deletes : List Entry → (least next : ℕ) → List Known → Line → Outcome → Type 0
 Deletes entries least next knowns line (client_said who (Replied reply)) =
