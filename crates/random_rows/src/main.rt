@@ -33,6 +33,26 @@ fn play<Rt: Threads + Sync>(rt: &Rt, alloc: Global, seed: u64) -> Result<Counts,
     schedule.played(rt)
 }
 
+fn print_counts(rt: &HostRuntime, counts: &Counts) -> io::Result<()> {
+    let Counts {
+        entries,
+        answers,
+        faults,
+        merges,
+        deletes,
+        raises,
+        removals,
+        documents,
+        removed,
+        parted,
+    } = *counts;
+    println!(rt; "{entries} entries, {answers} answers, {faults} failed calls, {merges} merges")?;
+    println!(rt;
+        "{deletes} deletes, {raises} raises, {removals} removals, {removed} of {documents} documents removed"
+    )?;
+    println!(rt; "{parted} schedules in which some documents were removed and others were left")
+}
+
 fn main(rt: HostRuntime) -> io::Result<()> {
     let mut words = env::args(&rt)?.skip(1);
     let first = number(words.next(), 1);
@@ -52,31 +72,7 @@ fn main(rt: HostRuntime) -> io::Result<()> {
     }
     println!(rt; "{count} schedules, {wrong} wrong")?;
     if is_counted {
-        let Counts {
-            entries,
-            answers,
-            faults,
-            merges,
-            ..
-        } = counts;
-        println!(rt;
-            "{entries} entries, {answers} answers, {faults} failed calls, {merges} merges"
-        )?;
-        let Counts {
-            deletes,
-            raises,
-            removals,
-            documents,
-            removed,
-            parted,
-            ..
-        } = counts;
-        println!(rt;
-            "{deletes} deletes, {raises} raises, {removals} removals, {removed} of {documents} documents removed"
-        )?;
-        println!(rt;
-            "{parted} schedules in which some documents were removed and others were left"
-        )?;
+        print_counts(&rt, &counts)?;
     }
     Ok(())
 }
