@@ -1,4 +1,5 @@
 use Rattle.std.proofs.Common.{◌≡◌, ◌∙◌, ◌<◌, ◌||◌, ◌&&◌, ℕ, List, Some, get_or, take, length, refl, sym, ap, ap₂, subst, arith}
+use Rattle.std.proofs.lemmas.List.Elements.{All-get_or}
 use Rattle.std.specs.Prelude.{slice_get, ◌==◌}
 use Rattle.delete_tasks.specs.Removed.{Place}
 use Rattle.doc_sets.specs.Bits.{has}
@@ -11,7 +12,10 @@ use Rattle.upkeep_run.proofs.dropping.put_each.Goals as goal
 
 pub returns-in_err-at-clause-there : goal.returns-in_err-at-clause-there
 returns-in_err-at-clause-there c = λ s documents p part all.
-    let at = drop_at documents (get_or c.args.numbers.now c.loop-number.number-index 0) ?within in
+    let n = get_or c.args.numbers.now c.loop-number.number-index 0 in
+    let below : n < c.args.view.now.footer.layout.docs = All-get_or (λ m. m < c.args.view.now.footer.layout.docs) c.args.numbers.now c.loop-number.number-index 0 (omega (arith, c.loop-number-test.true)) c.requires.below in
+    let docs : c.args.view.now.footer.layout.docs ≡ length documents = part.footer.layout.docs ∙ part.is_split.docs in
+    let at = drop_at documents n (omega (arith, below, docs)) in
     absurd (cc (c.in_err-at.ensures.there s documents p at.0 part all at.1))
 
 pub loop-number-preserved : goal.loop-number-preserved
@@ -22,10 +26,12 @@ loop-number-preserved c =
     let spans = c.args.spans.now in
     let opstamp = c.args.opstamp in
     let there : slice_get ns i ≡ Some n = item_there ns i 0 n (omega (arith, c.loop-number-test.true)) refl in
+    let below : n < c.args.view.now.footer.layout.docs = All-get_or (λ m. m < c.args.view.now.footer.layout.docs) ns i 0 (omega (arith, c.loop-number-test.true)) c.requires.below in
     record {
       size = c.put_before.ensures.size ∙ c.loop-number.invariant.size;
       has = λ s documents p part all k.
-          let at = drop_at documents n ?within in
+          let docs : c.args.view.now.footer.layout.docs ≡ length documents = part.footer.layout.docs ∙ part.is_split.docs in
+          let at = drop_at documents n (omega (arith, below, docs)) in
           let found = c.in_ok-at.ensures.only s documents p at.0 part at.1 in
           let place : place_at c.in_ok-at.at ≡ place_of at.0 = ap₂ (λ (name : List ℕ) (offset : ℕ). record { partition = name; offset = offset }) found.0 found.1 in
           let admitted = subst (λ (x : Place). IsAdmitted spans c.args.upto x c.admitted_at.result) place c.admitted_at.ensures in
