@@ -1,11 +1,11 @@
 -- Which documents of a file are dropped, and what is left of them.
-use Rattle.std.proofs.Common.{◌≡◌, inl, inr, ℕ, zero, suc, ◌+◌, ◌<◌, ◌≤◌, ◌==◌, ◌&&◌, ◌||◌, Bool, true, false, cond, get_or, not, List, [], ◌∷◌, ◌++◌, drop, filter, length, map, min, take, refl, sym, ap, ap₂, ◌∙◌, subst, arith, eq-eqb, nat_le, nat_lt, ◌⊎◌, Option, Some, None}
+use Rattle.std.proofs.Common.{◌≡◌, inl, inr, ℕ, zero, suc, ◌+◌, ◌<◌, ◌≤◌, ◌==◌, ◌&&◌, ◌||◌, Bool, true, false, cond, get_or, not, List, [], ◌∷◌, ◌++◌, drop, filter, length, map, min, take, refl, sym, ap, ap₂, ◌∙◌, subst, arith, eq-eqb, nat_le, nat_lt, ◌⊎◌, Option, Some, None, Ok, Err, Result}
 use Rattle.std.proofs.lemmas.Bool.{cases_Bool, eqb-true, le-leb, le-ltb, lt-leb, ne_eqb}
 use Rattle.std.proofs.lemmas.Bool.Decides.{nat_tests}
 use Rattle.std.proofs.lemmas.List.Elements.{filter_agree}
 use Rattle.std.proofs.lemmas.List.Folds.{list_any-append}
 use Rattle.std.specs.List.{list_any}
-use Rattle.std.specs.Prelude.{slice_get, slice_index}
+use Rattle.std.specs.Prelude.{slice_get, IsOkAnd, MatchResult}
 use Rattle.delete_tasks.specs.Removed.{Place, lies_in}
 use Rattle.delete_tasks.specs.Removes.{DeleteTask, removes}
 use Rattle.doc_sets.specs.Bits.{has}
@@ -255,6 +255,11 @@ module _ (s : Schema) (spans : List Span) (upto : ℕ) (task : DeleteTask) (le :
       new ≡ (old || (is_one_of k numbers && holds (is_before spans task.opstamp) ds k)) → new ≡ (old || holds (λ d. drops s spans upto d task) ds k)
   drops_put ds numbers k new old same e =
       e ∙ ap (λ b. old || (b && holds (is_before spans task.opstamp) ds k)) (ap (is_one_of k) same ∙ one_from (λ d. holds_query s d task.query && within_times s task.times d) 0 ds k k (omega arith)) ∙ ap (λ b. old || b) (drops_at ds k)
+
+-- an answer that is always given
+pub always_given : {X E : Type 0} (r : Result X E) (P Q : X → Type 0) (R : E → Type 0) → IsOkAnd r P → ((x : X) → P x → Q x) → MatchResult r Q R
+always_given (Ok x) P Q R h f = f x h
+always_given (Err e) P Q R h f = absurd h
 
 -- ---- what several tasks drop
 

@@ -1,13 +1,14 @@
-use Rattle.std.proofs.Common.{◌≡◌, ◌∙◌, ◌≤◌, ◌||◌, ◌&&◌, ℕ, refl, sym, ap, subst, arith}
-use Rattle.std.proofs.lemmas.Result.{MatchResult-weaker}
+use Rattle.std.proofs.Common.{◌≡◌, ◌∙◌, ◌≤◌, ◌<◌, ◌||◌, ◌&&◌, ℕ, length, refl, sym, ap, subst, arith}
+use Rattle.std.specs.Prelude.{IsOkAnd}
 use Rattle.delete_tasks.specs.Removes.{DeleteTask}
 use Rattle.doc_sets.specs.Bits.{has}
 use Rattle.doc_sets.specs.Sets.{is_one_of}
+use Rattle.doc_sets.specs.Faults.{IsMemory}
 use Rattle.leaf_search.specs.Askable.{CanAsk}
 use Rattle.leaf_search.specs.Numbers.{numbers_of}
 use Rattle.query_ast.specs.Meaning.{meaning, within_times}
 use Rattle.upkeep_run.specs.Dropping.{drops, holds, is_before}
-use Rattle.upkeep_run.proofs.DropSets.{drops_put, none_past, or_same}
+use Rattle.upkeep_run.proofs.DropSets.{always_given, drops_put, none_past, or_same}
 use Rattle.upkeep_run.proofs.dropping.put_dropped.Goals as goal
 
 pub returns-then-upto-task-clause-there : goal.returns-then-upto-task-clause-there
@@ -26,7 +27,8 @@ returns-clause-there c = λ documents p part all asked.
     let found = c.in_ok-numbers.ensures.there documents p part all (subst (λ (t : DeleteTask). CanAsk s t.query) (sym c.task.view_is) asked) in
     let numbers : c.as_slice.result.now ≡ numbers_of (λ d. meaning s d task.query && within_times s task.times d) documents =
     c.as_slice.ensures.value ∙ subst (λ (t : DeleteTask). c.in_ok-numbers.numbers.items ≡ numbers_of (λ d. meaning s d t.query && within_times s t.times d) documents) c.task.view_is found in
-    MatchResult-weaker c.put_each.result (c.put_each.ensures.there s documents p part all) (λ _ put k lt.
-    drops_put s spans c.args.upto task le documents c.as_slice.result.now k (has c.put_each.new.bits k) (has c.args.bits.now k) numbers
-    (subst (λ (o : ℕ). has c.put_each.new.bits k ≡ (has c.args.bits.now k || (is_one_of k c.as_slice.result.now && holds (is_before spans o) documents k))) same (put k)))
-    (λ _ bad. absurd bad)
+    let put = subst (λ (o : ℕ). IsOkAnd c.put_each.result (λ _. (k : ℕ) → has c.put_each.new.bits k ≡ (has c.args.bits.now k || (is_one_of k c.as_slice.result.now && holds (is_before spans o) documents k)))) same
+    (c.put_each.ensures.there s documents p part all) in
+    always_given c.put_each.result (λ _. (k : ℕ) → has c.put_each.new.bits k ≡ (has c.args.bits.now k || (is_one_of k c.as_slice.result.now && holds (is_before spans task.opstamp) documents k)))
+    (λ _. (k : ℕ) → k < length documents → has c.put_each.new.bits k ≡ (has c.args.bits.now k || holds (λ d. drops s spans c.args.upto d task) documents k)) IsMemory put
+    (λ _ each k lt. drops_put s spans c.args.upto task le documents c.as_slice.result.now k (has c.put_each.new.bits k) (has c.args.bits.now k) numbers (each k))
