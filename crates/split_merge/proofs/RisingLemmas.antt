@@ -49,9 +49,10 @@ rise_first place first (p ∷ ps) is rise = let same : p ≡ first = cc in omega
 
 -- they rise from one on where the first is not below it
 pub rise_test : (least place first wide : ℕ) (ps : List ℕ) → slice_get ps 0 ≡ Some first → wide ≡ first → RiseFrom least ps → IsTrue (leb place wide) ↔ RiseFrom place ps
-rise_test least place first wide ps is same rise =
-    (λ t. let le : place ≤ wide = leb-true place wide t in rise_more least place first ps is rise (omega (arith, le, same)),
-     λ r. let le : place ≤ first = rise_first place first ps is r in le-leb place wide (omega (arith, le, same)))
+rise_test least place first wide ps is same rise = (
+  λ t. let le : place ≤ wide = leb-true place wide t in rise_more least place first ps is rise (omega (arith, le, same)),
+  λ r. let le : place ≤ first = rise_first place first ps is r in le-leb place wide (omega (arith, le, same)),
+)
 
 -- ---- documents of which none is dropped
 

@@ -45,11 +45,7 @@ fn number_from(first: u32, docs: u32, doc: u32) -> Option<u32>
     requires { first + docs ≤ no_number }
     ensures { result ≡ number_in (rising first docs) doc }
 {
-    if doc < docs {
-        Some(first + doc)
-    } else {
-        None
-    }
+    if doc < docs { Some(first + doc) } else { None }
 }
 
 // The number of a document by a table.
