@@ -1,5 +1,5 @@
 -- The documents of a range by the entries of a column.
-use Rattle.std.proofs.Common.{◌≡◌, ℕ, ℤ, pos, negsuc, zero, suc, ◌+◌, ◌<◌, ◌≤◌, Bool, true, false, ◌&&◌, ◌||◌, List, [], ◌∷◌, ◌++◌, length, drop, get_or, nat_eq, nat_lt, slice_get, if◌then◌else◌, Some, Option, Result, Ok, Err, MatchResult, IfOk, refl, ap, sym, subst, ◌∙◌, arith}
+use Rattle.std.proofs.Common.{◌≡◌, ℕ, zero, suc, ◌+◌, ◌<◌, ◌≤◌, Bool, true, false, ◌&&◌, ◌||◌, List, [], ◌∷◌, ◌++◌, length, drop, get_or, nat_eq, nat_lt, slice_get, if◌then◌else◌, Some, Option, Result, Ok, Err, MatchResult, IfOk, refl, ap, sym, subst, ◌∙◌, arith}
 use Rattle.std.specs.List.{AllByRecursion, starts_with}
 use Rattle.std.proofs.lemmas.Bool.{eq-eqb, ne_eqb}
 use Rattle.std.proofs.lemmas.List.{drop_more}
@@ -11,17 +11,15 @@ use Rattle.doc_value.specs.declared.schema.Schema.{Schema}
 use Rattle.doc_value.specs.declared.doc.DocField.{DocField}
 use Rattle.doc_value.specs.declared.doc.Value.{Value}
 use Rattle.doc_value.specs.declared.doc.Value.TheVariants as values
-use Rattle.doc_value.specs.Documents.{IsOfKind, AreOfKind, IsOfSchema}
-use Rattle.doc_value.specs.Terms.{turned}
+use Rattle.doc_value.specs.Documents.{IsOfKind, AreOfKind, IsOfSchema, values_in}
 use Rattle.fast_fields.specs.Columns.{Cell, AreEntries, IsNumber, cells, cells_of}
-use Rattle.fast_fields.specs.Columns as columns
 use Rattle.fast_fields.specs.Readers.{IsOf}
 use Rattle.fast_fields.specs.declared.column.Column.{Column}
 use Rattle.fast_fields.specs.declared.entries.Entry.{Entry}
 use Rattle.fast_fields.specs.declared.rows.ColumnRow.{ColumnRow}
 use Rattle.term_dict.specs.declared.index.BlockStart.{BlockStart}
 use Rattle.query_ast.specs.declared.query.Edge.{Edge}
-use Rattle.query_ast.specs.Meaning.{values_in, is_above, is_below, between}
+use Rattle.query_ast.specs.Meaning.{is_above, is_below, between}
 use Rattle.query_ast.specs.Queries.{has_order}
 use Rattle.split_bundle.specs.Columns.{column_rows, row_of, rows_from}
 use Rattle.split_bundle.specs.declared.placed.Placed.{Placed}
@@ -30,7 +28,7 @@ use Rattle.split_bundle.specs.declared.pieces.FilePiece.{FilePiece}
 use Rattle.split_bundle.specs.Files.{Parts}
 use Rattle.split_bundle.specs.Lending.{LendsFast}
 use Rattle.doc_sets.specs.Bits.{has}
-use Rattle.doc_sets.specs.Faults.{HasCause, IsMemory}
+use Rattle.doc_sets.specs.Faults.{LacksPart, IsMemory}
 use Rattle.doc_sets.specs.Needed.{IsColumnFor, IsSearched}
 use Rattle.doc_sets.specs.Ranged.{begun_blocks, is_of, lies_in, some_is_of}
 use Rattle.doc_sets.specs.Sets.{IsSetOf, holds_at}
@@ -93,14 +91,10 @@ all_put r k place es new all le h = sym (ap (λ (l : List Entry). new || some_is
 
 -- ---- a value and its entry
 
-turned_same : (z : ℤ) → columns.turned z ≡ turned z
-turned_same (pos n) = refl
-turned_same (negsuc n) = refl
-
 number_is : (k : Kind) (texts : List (List ℕ)) (v : Value) (n : ℕ) → has_order k ≡ true → IsOfKind k v → IsNumber texts v n → n ≡ number_of v
-number_is kinds.I64 texts (values.I64 z) n ordered of_kind is = is ∙ turned_same z
+number_is kinds.I64 texts (values.I64 z) n ordered of_kind is = is
 number_is kinds.U64 texts (values.U64 m) n ordered of_kind is = is
-number_is kinds.Datetime texts (values.Datetime z) n ordered of_kind is = is ∙ turned_same z
+number_is kinds.Datetime texts (values.Datetime z) n ordered of_kind is = is
 number_is kinds.I64 texts v n ordered of_kind is = absurd of_kind
 number_is kinds.U64 texts v n ordered of_kind is = absurd of_kind
 number_is kinds.Datetime texts v n ordered of_kind is = absurd of_kind
@@ -224,7 +218,7 @@ pub lent_column : (pieces : List FilePiece) (at len n : ℕ) (ds : List Placed) 
 lent_column pieces at len n ds o f r c here fast is h =
     (subst (λ (x : Option Field). LendsFast pieces at len n ds x (Ok (Some c))) here (subst (λ (x : Option Column). LendsFast pieces at len n ds o (Ok x)) is h)).1 fast
 
-only_memory : (asked : ℕ → ℕ → Type 0) (pieces : List FilePiece) (e : LeafError) → IsMemory e → HasCause asked pieces e
+only_memory : (asked : ℕ → ℕ → Type 0) (pieces : List FilePiece) (e : LeafError) → IsMemory e → LacksPart asked pieces e
 only_memory asked pieces (faults.Memory a) h = tt
 only_memory asked pieces (faults.Missing at) h = absurd h
 only_memory asked pieces (faults.Corrupt section) h = absurd h
@@ -248,7 +242,7 @@ module _ (v : PartView) (s : Schema) (ds : List Placed) (p : Parts) (is : IsSear
       (all_below f.kind low high ordered low_fits high_fits column.texts n 0 ds column.entries known column.are_entries)
 
   pub column_gives : (range : NumberRange) (r : Result DocBits LeafError) → range ≡ range_of f.kind low high → IfOk r (λ b. b.size ≡ v.footer.layout.docs) → MatchResult r (λ b. (k : ℕ) → has b k ≡ some_is_of range k column.entries) IsMemory
-      → MatchResult r (IsSetOf (λ d. between low high (values_in d n)) ds) (HasCause (IsColumnFor v s p n) v.pieces)
+      → MatchResult r (IsSetOf (λ d. between low high (values_in d n)) ds) (LacksPart (IsColumnFor v s p n) v.pieces)
   column_gives range (Ok b) same size h = record {
     size = size ∙ docs_are;
     each = λ k lt. h k ∙ (ap (λ r. some_is_of r k column.entries) same ∙ documents_are f.kind low high ordered low_fits high_fits column.texts n 0 k k ds column.entries known column.are_entries (omega arith));

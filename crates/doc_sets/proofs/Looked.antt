@@ -15,7 +15,7 @@ use Rattle.doc_sets.specs.declared.dictionary_lookup.Lookup.TheVariants.{Documen
 use Rattle.doc_sets.specs.declared.leaf_error.LeafError.{LeafError}
 use Rattle.doc_sets.specs.Asking.{AsksBlocks, AsksLists, AsksLookups, LacksLookups}
 use Rattle.doc_sets.specs.Needed.{AsksKey, AsksOneOf, AsksPlaces, LacksKeys, LacksPlaces, token_keys}
-use Rattle.doc_sets.specs.Faults.{HasCause}
+use Rattle.doc_sets.specs.Faults.{LacksPart}
 use Rattle.doc_sets.specs.Texts.{item_lookups, lookups_for, text_lookups}
 use Rattle.doc_sets.specs.Walks.{AsksWalk}
 use Rattle.doc_sets.specs.declared.wanted.Wanted.{Wanted}
@@ -39,13 +39,6 @@ pub looked_all : (n : ℕ) (ts : List Token) → each_looked (nat_lt 1 (length t
 looked_all n [] = refl
 looked_all n (t ∷ []) = refl
 looked_all n (t ∷ u ∷ ts) = ap (λ b. each_looked b n (t ∷ u ∷ ts)) (lt-ltb 1 (length (t ∷ u ∷ ts)) (omega arith)) ∙ all_places n (t ∷ u ∷ ts)
-
-pub looked_step : (several : Bool) (n i : ℕ) (t : Token) (ts : List Token) (ls all : List Lookup) (key : List ℕ) → i < length ts → t ≡ get_or ts i t → key ≡ field_key n t.text → ls ++ each_looked several n (drop i ts) ≡ all
-    → (ls ++ cond several (Places key) (Documents key) ∷ []) ++ each_looked several n (drop (i + 1) ts) ≡ all
-looked_step several n i t ts ls all key lt e same h =
-    let rest : drop i ts ≡ t ∷ drop (i + 1) ts = drop_more ts i t lt ∙ ap (λ y. y ∷ drop (i + 1) ts) (sym e) in
-    append_assoc ls (cond several (Places key) (Documents key) ∷ []) (each_looked several n (drop (i + 1) ts))
-    ∙ (ap (λ k. ls ++ cond several (Places k) (Documents k) ∷ each_looked several n (drop (i + 1) ts)) same ∙ (ap (λ us. ls ++ each_looked several n us) (sym rest) ∙ h))
 
 pub item_step : (f : Field) (n i : ℕ) (t : Item) (ts : List Item) (ls all : List Lookup) (text : List ℕ) → i < length ts → t ≡ get_or ts i t → text ≡ t.text → ls ++ item_lookups f n (drop i ts) ≡ all
     → (ls ++ text_lookups f n text) ++ item_lookups f n (drop (i + 1) ts) ≡ all
@@ -97,7 +90,7 @@ module _ (v : PartView) (s : Schema) (ds : List Placed) (p : Parts) where
   walk_looked prefix w at len (inl h) = inl (inl h)
   walk_looked prefix w at len (inr h) = inr (inl h)
 
-  pub walk_lacks_looked : (prefix : List ℕ) (w : Wanted) (e : LeafError) → HasCause (AsksWalk v s ds p prefix w) v.pieces e → LacksLookups v s ds p (Walk prefix w ∷ []) e
+  pub walk_lacks_looked : (prefix : List ℕ) (w : Wanted) (e : LeafError) → LacksPart (AsksWalk v s ds p prefix w) v.pieces e → LacksLookups v s ds p (Walk prefix w ∷ []) e
   walk_lacks_looked prefix w e h = cause_wider (AsksWalk v s ds p prefix w) (AsksLookups v s ds p (Walk prefix w ∷ [])) v.pieces e (walk_looked prefix w) h
 
   -- what is asked for of some of joined look-ups

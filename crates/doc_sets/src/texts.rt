@@ -3,7 +3,8 @@
 ghost use Rattle.std.specs.Prelude.{◌≡◌, ◌<◌, true, false, Some, List, slice_get, IfOk, MatchResult};
 ghost use Rattle.doc_value.specs.declared.schema.Schema.{Schema};
 ghost use Rattle.query_ast.specs.FieldTokens.{field_tokens};
-ghost use Rattle.query_ast.specs.Meaning.{values_in, is_text, equals_some, phrase_holds, each_holds, quoted_holds, word_holds, item_holds, some_item_holds};
+ghost use Rattle.query_ast.specs.Meaning.{is_text, equals_some, phrase_holds, each_holds, quoted_holds, word_holds, item_holds, some_item_holds};
+ghost use Rattle.doc_value.specs.Documents.{values_in};
 ghost use Rattle.query_ast.specs.Spelled.{spelled};
 ghost use Rattle.split_bundle.specs.declared.placed.Placed.{Placed};
 ghost use Rattle.split_bundle.specs.Files.{Parts};
@@ -11,7 +12,8 @@ ghost use Rattle.doc_sets.specs.Asking.{LacksLookups};
 ghost use Rattle.doc_sets.specs.Needed.{IsSearched, token_keys};
 ghost use Rattle.doc_sets.specs.Reads.{ReadsAll};
 ghost use Rattle.doc_sets.specs.Sets.{IsSetOf};
-ghost use Rattle.doc_sets.specs.Texts.{CanPlace, CanPlaceEach, item_lookups, lookups_for, text_lookups, value_keys};
+ghost use Rattle.doc_sets.specs.Texts.{item_lookups, lookups_for, text_lookups, value_keys};
+ghost use Rattle.query_ast.specs.Askable.{CanPlace, CanPlaceEach};
 
 use crate::bits::DocBits;
 use crate::leaf_error::LeafError;

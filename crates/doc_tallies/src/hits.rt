@@ -8,7 +8,7 @@ ghost use Rattle.split_bundle.specs.Files.{Parts, file_bytes};
 ghost use Rattle.split_bundle.specs.Lending.{IsPartOf};
 ghost use Rattle.split_bundle.specs.Wholes.{HaveAll, IsThere};
 ghost use Rattle.doc_tallies.specs.Bars.{HasBar};
-ghost use Rattle.doc_tallies.specs.Causes.{AsksDocuments, AsksHits, HasCause, LacksDocument};
+ghost use Rattle.doc_tallies.specs.Causes.{AsksDocuments, AsksHits, LacksPart, LacksDocument};
 ghost use Rattle.doc_tallies.specs.Near.{shown};
 ghost use Rattle.doc_tallies.specs.Orders.{IsSortable, firsts};
 ghost use Rattle.doc_tallies.specs.Orders as orders;
@@ -64,11 +64,18 @@ fn is_full(wanted: usize, count: usize) -> bool
 // How many hits more than are wanted are kept before they are cut, at least.
 const SPARE: usize = 64;
 
+// How many hits more than are wanted are kept before they are cut. Before the first cut by addresses there are none: of documents that
+// come in the order of their addresses no more than are wanted are then read.
+fn spare_by_address(wanted: usize, full: bool) -> usize {
+    if full { wanted.max(SPARE) } else { 0 }
+}
+
 // Adds a hit to some among which the first so many of all are, unless it is late. It says whether so many are known not to stand
 // behind the last of these, as it is told of the hits before.
 fn keep(
     order: Option<HitOrder>,
     wanted: usize,
+    spare: usize,
     full: bool,
     kept: &mut Vec<Placed>,
     hit: Placed,
@@ -81,7 +88,7 @@ fn keep(
         return Ok(true);
     }
     kept.push(hit)?;
-    if kept.len().saturating_sub(wanted) < wanted.max(SPARE) {
+    if kept.len() < wanted.saturating_add(spare) {
         return Ok(full);
     }
     cut(order, wanted, kept)?;
@@ -100,14 +107,15 @@ fn hits_among(
 ) -> Result<PlacedList, SplitError>
     requires { AllBelow view.now.footer.layout.docs numbers.now }
     ensures only { (documents : List Placed) (p : Parts) → IsPartOf view.now schema.now documents p
-        → MatchResult result (λ hits. hits ≡ firsts wanted order (picked numbers.now documents)) (HasCause (AsksDocuments p documents numbers.now) view.now.pieces) }
+        → MatchResult result (λ hits. hits ≡ firsts wanted order (picked numbers.now documents)) (LacksPart (AsksDocuments p documents numbers.now) view.now.pieces) }
     ensures there { (documents : List Placed) (p : Parts) → IsPartOf view.now schema.now documents p → HaveAll (file_bytes p) view.now.pieces → IsThere result }
 {
     let mut kept = Vec::new(alloc);
     let mut full = false;
+    let spare = wanted.max(SPARE);
     for number in numbers {
         match view.placed(alloc, schema, *number) {
-            Ok(hit) => full = keep(order, wanted, full, &mut kept, hit)?,
+            Ok(hit) => full = keep(order, wanted, spare, full, &mut kept, hit)?,
             Err(fault) => return Err(fault),
         }
     }
@@ -154,7 +162,7 @@ fn keep_there(
     requires below { number < view.now.footer.layout.docs }
     requires bar { OnTrue full (HasBar (orders.comes_before None) wanted kept.old.items) }
     ensures only { (documents : List Placed) (p : Parts) (d : Placed) → IsPartOf view.now schema.now documents p → slice_get documents number ≡ Some d
-        → MatchResult result (λ full. firsts wanted None kept.new.items ≡ firsts wanted None (kept.old.items ++ d ∷ [])) (HasCause (AsksDocuments p documents (number ∷ [])) view.now.pieces) }
+        → MatchResult result (λ full. firsts wanted None kept.new.items ≡ firsts wanted None (kept.old.items ++ d ∷ [])) (LacksPart (AsksDocuments p documents (number ∷ [])) view.now.pieces) }
     ensures bar { IfOk result (λ full. OnTrue full (HasBar (orders.comes_before None) wanted kept.new.items)) }
     ensures there { (documents : List Placed) (p : Parts) (d : Placed) → IsPartOf view.now schema.now documents p → HaveAll (file_bytes p) view.now.pieces
         → slice_get documents number ≡ Some d → IsThere result }
@@ -162,7 +170,10 @@ fn keep_there(
     match is_late_there(view, wanted, full, kept.as_slice(), number) {
         Ok(true) => Ok(full),
         Ok(false) => match view.placed(alloc, schema, number) {
-            Ok(hit) => Ok(keep(None, wanted, full, kept, hit)?),
+            Ok(hit) => {
+                let spare = spare_by_address(wanted, full);
+                Ok(keep(None, wanted, spare, full, kept, hit)?)
+            }
             Err(fault) => Err(fault),
         },
         Err(fault) => Err(fault),
@@ -179,7 +190,7 @@ fn hits_by_address(
 ) -> Result<PlacedList, SplitError>
     requires { AllBelow view.now.footer.layout.docs numbers.now }
     ensures only { (documents : List Placed) (p : Parts) → IsPartOf view.now schema.now documents p
-        → MatchResult result (λ hits. hits ≡ firsts wanted None (picked numbers.now documents)) (HasCause (AsksDocuments p documents numbers.now) view.now.pieces) }
+        → MatchResult result (λ hits. hits ≡ firsts wanted None (picked numbers.now documents)) (LacksPart (AsksDocuments p documents numbers.now) view.now.pieces) }
     ensures there { (documents : List Placed) (p : Parts) → IsPartOf view.now schema.now documents p → HaveAll (file_bytes p) view.now.pieces → IsThere result }
 {
     let mut kept = Vec::new(alloc);
@@ -207,7 +218,7 @@ fn sorted_hits(
     requires below { AllBelow view.now.footer.layout.docs numbers.now }
     requires some { 1 ≤ wanted }
     ensures only { (documents : List Placed) (p : Parts) → IsPartOf view.now schema.now documents p → IsSortOf schema.now documents order sort.now
-        → MatchResult result (λ hits. hits ≡ firsts wanted order (picked numbers.now documents)) (HasCause (AsksDocuments p documents (shown order wanted documents numbers.now)) view.now.pieces) }
+        → MatchResult result (λ hits. hits ≡ firsts wanted order (picked numbers.now documents)) (LacksPart (AsksDocuments p documents (shown order wanted documents numbers.now)) view.now.pieces) }
     ensures there { (documents : List Placed) (p : Parts) → IsPartOf view.now schema.now documents p → HaveAll (file_bytes p) view.now.pieces → IsThere result }
 {
     match sort {
@@ -233,7 +244,7 @@ pub fn first_hits(
     requires { AllBelow view.now.footer.layout.docs numbers.now }
     // Of a split of documents.
     ensures only { (documents : List Placed) (p : Parts) → IsPartOf view.now schema.now documents p → IsSortable schema.now order
-        → MatchResult result (λ hits. hits ≡ firsts wanted order (picked numbers.now documents)) (HasCause (AsksHits view.now p documents order wanted numbers.now) view.now.pieces) }
+        → MatchResult result (λ hits. hits ≡ firsts wanted order (picked numbers.now documents)) (LacksPart (AsksHits view.now p documents order wanted numbers.now) view.now.pieces) }
     // Where the pieces have every part.
     ensures there { (documents : List Placed) (p : Parts) → IsPartOf view.now schema.now documents p → HaveAll (file_bytes p) view.now.pieces → IsThere result }
     // Where none are wanted.

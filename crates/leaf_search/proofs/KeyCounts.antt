@@ -2,16 +2,16 @@
 use Rattle.std.proofs.Common.{◌≡◌, ℕ, suc, ◌≤◌, ◌==◌, inl, Bool, true, false, not, ◌&&◌, ◌||◌, cond, List, [], ◌∷◌, length, filter, slice_get, Option, Some, None, Result, Ok, Err, MatchResult, refl, ap, sym, ◌∙◌, subst, arith}
 use Rattle.std.specs.List.{AllByRecursion, AllZip}
 use Rattle.std.specs.Option.{option_and_then, option_map_or}
-use Rattle.std.proofs.lemmas.Bool.{eqb-true}
+use Rattle.std.proofs.lemmas.Bool.{eqb-true, and_parts, or_parts}
 use Rattle.std.proofs.lemmas.Option.{slice_get_within}
 use Rattle.doc_value.specs.declared.schema.Field.{Field}
 use Rattle.doc_value.specs.declared.schema.Schema.{Schema}
 use Rattle.doc_value.specs.declared.doc.DocField.{DocField}
 use Rattle.doc_value.specs.declared.doc.Value.{Value}
-use Rattle.doc_value.specs.Documents.{IsOfSchema}
+use Rattle.doc_value.specs.Documents.{IsOfSchema, values_in}
 use Rattle.text_tokens.specs.declared.tokens.Token.{Token}
 use Rattle.query_ast.specs.FieldTokens.{field_tokens}
-use Rattle.query_ast.specs.Meaning.{meaning, values_in, is_text, is_unlimited, has_time_within, some_has_token, each_holds, phrase_holds, equals_some, word_holds, quoted_holds}
+use Rattle.query_ast.specs.Meaning.{meaning, is_text, is_unlimited, has_time_within, some_has_token, each_holds, phrase_holds, equals_some, word_holds, quoted_holds}
 use Rattle.query_ast.specs.Sought.{Sought, view}
 use Rattle.query_ast.specs.Sought as sought
 use Rattle.query_ast.specs.Spelled.{spelled}
@@ -30,11 +30,12 @@ use Rattle.split_bundle.specs.Wholes.{HaveAll}
 use Rattle.split_bundle.specs.declared.part_view.PartView.{PartView}
 use Rattle.doc_sets.specs.declared.dictionary_lookup.Lookup.TheVariants.{Count}
 use Rattle.doc_sets.specs.declared.leaf_error.LeafError.{LeafError}
-use Rattle.doc_sets.specs.Faults.{HasCause, IsMemory}
+use Rattle.doc_sets.specs.Faults.{LacksPart, IsMemory}
 use Rattle.doc_sets.specs.Needed.{IsBlockFor, token_keys}
 use Rattle.doc_sets.proofs.Causes.{cause_wider}
 use Rattle.doc_sets.proofs.WithinFile.{lookups_within, only_memory}
-use Rattle.doc_sets.specs.Texts.{CanPlace, one_token, only}
+use Rattle.doc_sets.specs.Texts.{one_token, only}
+use Rattle.query_ast.specs.Askable.{CanPlace, CanAsk}
 use Rattle.doc_sets.proofs.PlaceKeys.{token_is_key}
 use Rattle.doc_sets.proofs.Steps.{and_true, texts_in}
 use Rattle.doc_sets.proofs.TermWalks.{all_map}
@@ -42,7 +43,6 @@ use Rattle.doc_tallies.specs.Orders.{firsts}
 use Rattle.doc_tallies.specs.Picked.{docs_of}
 use Rattle.leaf_search.specs.Answers.{AsksLeaf, AsksWith, found, passes, IsAnswerOf, IsAsked}
 use Rattle.leaf_search.specs.Asks.{lookups_of}
-use Rattle.leaf_search.specs.Askable.{CanAsk}
 use Rattle.leaf_search.specs.Counts.{counted_key, one_key, only_counts, request_lookups}
 use Rattle.leaf_search.specs.declared.request.LeafAnswer.{LeafAnswer}
 use Rattle.leaf_search.specs.declared.request.LeafRequest.{LeafRequest}
@@ -122,10 +122,6 @@ module _ (s : Schema) (few : length s.fields ≤ 256) (key : List ℕ) (d : List
 
 -- ---- a request that only counts
 
-pub and_both : (a b : Bool) → a && b ≡ true → (a ≡ true) × (b ≡ true)
-and_both true b h = (refl, h)
-and_both false b h = absurd (cc)
-
 pub record OnlyCounts (s : Schema) (r : LeafRequest) (key : List ℕ) : Type 0 where
   pub wanted : r.wanted ≡ 0
   pub unlimited : is_unlimited r.times.start r.times.end ≡ true
@@ -142,8 +138,8 @@ counts s r key e = go (only_counts r) refl e
     go : (b : Bool) → only_counts r ≡ b → cond b (one_key s (view r.query)) None ≡ some key → OnlyCounts s r key
     go false is h = absurd (cc)
     go true is h =
-        let first = and_both (r.wanted == 0) (is_unlimited r.times.start r.times.end && (length r.aggs == 0)) is in
-        let second = and_both (is_unlimited r.times.start r.times.end) (length r.aggs == 0) first.1 in
+        let first = and_parts (r.wanted == 0) (is_unlimited r.times.start r.times.end && (length r.aggs == 0)) is in
+        let second = and_parts (is_unlimited r.times.start r.times.end) (length r.aggs == 0) first.1 in
         record { wanted = eqb-true r.wanted 0 first.0; unlimited = second.0; aggs = no_aggs r.aggs second.1; query = h }
 
 passes_key : (s : Schema) (r : LeafRequest) (key : List ℕ) (d : List DocField) → length s.fields ≤ 256 → IsOfSchema s d → OnlyCounts s r key → CanAsk s (view r.query) → passes s r d ≡ has_key key (keys_of s d)
@@ -152,14 +148,10 @@ passes_key s r key d few of_schema c can =
 
 -- ---- how many documents have a key
 
-or_none : (a b : Bool) → a || b ≡ false → (a ≡ false) × (b ≡ false)
-or_none true b e = absurd (cc)
-or_none false b e = (refl, e)
-
 none_posted : (s : Schema) (key : List ℕ) (n : ℕ) (ds : List Placed) → stands_in s key ds ≡ false → length (posted s key n ds) ≡ 0
 none_posted s key n [] h = refl
 none_posted s key n (d ∷ ds) h =
-    let both = or_none (has_key key (keys_of s d.doc)) (stands_in s key ds) h in
+    let both = or_parts (has_key key (keys_of s d.doc)) (stands_in s key ds) h in
     go (has_key key (keys_of s d.doc)) _ both.0 (none_posted s key (suc n) ds both.1)
   where
     go : (b : Bool) (x : Posting) → b ≡ false → length (posted s key (suc n) ds) ≡ 0 → length (cond b (x ∷ posted s key (suc n) ds) (posted s key (suc n) ds)) ≡ 0
@@ -214,17 +206,17 @@ module _ (v : PartView) (s : Schema) (ds : List Placed) (p : Parts) (r : LeafReq
   pub counted_lookups : (key : List ℕ) → counted_key s r ≡ some key → request_lookups v.footer s r ≡ Count key ∷ []
   counted_lookups key same = ap (λ (o : Option (List ℕ)). option_map_or (λ k. Count k ∷ []) o (lookups_of v.footer s (view r.query))) same
 
-  pub counted_cause : (key : List ℕ) (e : LeafError) → counted_key s r ≡ some key → HasCause (IsBlockFor v s ds p key) v.pieces e → HasCause (AsksLeaf v s ds p r) v.pieces e
+  pub counted_cause : (key : List ℕ) (e : LeafError) → counted_key s r ≡ some key → LacksPart (IsBlockFor v s ds p key) v.pieces e → LacksPart (AsksLeaf v s ds p r) v.pieces e
   counted_cause key e same cause =
-      subst (λ (o : Option (List ℕ)). HasCause (AsksWith v s ds p r (option_map_or (λ k. Count k ∷ []) o (lookups_of v.footer s (view r.query)))) v.pieces e) (sym same)
+      subst (λ (o : Option (List ℕ)). LacksPart (AsksWith v s ds p r (option_map_or (λ k. Count k ∷ []) o (lookups_of v.footer s (view r.query)))) v.pieces e) (sym same)
       (cause_wider (IsBlockFor v s ds p key) (AsksWith v s ds p r (Count key ∷ [])) v.pieces e (λ at len b. inl (inl b)) cause)
 
-  pub uncounted : {X : Type 0} (good : X → Type 0) (result : Result X LeafError) → counted_key s r ≡ None → MatchResult result good (HasCause (AsksWith v s ds p r (lookups_of v.footer s (view r.query))) v.pieces)
-      → MatchResult result good (HasCause (AsksLeaf v s ds p r) v.pieces)
+  pub uncounted : {X : Type 0} (good : X → Type 0) (result : Result X LeafError) → counted_key s r ≡ None → MatchResult result good (LacksPart (AsksWith v s ds p r (lookups_of v.footer s (view r.query))) v.pieces)
+      → MatchResult result good (LacksPart (AsksLeaf v s ds p r) v.pieces)
   uncounted good result same h =
-      subst (λ (o : Option (List ℕ)). MatchResult result good (HasCause (AsksWith v s ds p r (option_map_or (λ k. Count k ∷ []) o (lookups_of v.footer s (view r.query)))) v.pieces)) (sym same) h
+      subst (λ (o : Option (List ℕ)). MatchResult result good (LacksPart (AsksWith v s ds p r (option_map_or (λ k. Count k ∷ []) o (lookups_of v.footer s (view r.query)))) v.pieces)) (sym same) h
 
-  pub block_memory : (key : List ℕ) (e : LeafError) → IsPartOf v s ds p → HaveAll (file_bytes p) v.pieces → HasCause (IsBlockFor v s ds p key) v.pieces e → IsMemory e
+  pub block_memory : (key : List ℕ) (e : LeafError) → IsPartOf v s ds p → HaveAll (file_bytes p) v.pieces → LacksPart (IsBlockFor v s ds p key) v.pieces e → IsMemory e
   block_memory key e part all cause = only_memory (IsBlockFor v s ds p key) (file_bytes p) v.pieces e (λ at len b. lookups_within v s ds p part (Count key ∷ []) at len (inl (inl b))) all cause
 
 -- a result by parts

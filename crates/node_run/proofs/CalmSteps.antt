@@ -12,7 +12,7 @@ use Rattle.index_world.specs.Core.{Core, last_count}
 use Rattle.index_world.specs.Gate.{stage_call, publish_call, stage_act, task_act, task_call}
 use Rattle.index_world.specs.SplitFile.{file_of}
 use Rattle.indexing_run.specs.Outcomes as said
-use Rattle.indexing_run.specs.Places.{Batch, Held, Place, idle, reading, staged, uploaded, Indexer}
+use Rattle.indexing_run.specs.Places.{Batch, IndexerHeld, IndexerPlace, idle, reading, staged, uploaded, Indexer}
 use Rattle.indexing_run.specs.Steps.{LogCall, Stepped, stepped, log_may_fail, log_called, checkpoints_by, checkpoints_given, take_checkpoints, idle_by, step_idle, read_by, read_given, read_asked, step_read, stage_given, step_stage, batch_facts, upload_given, step_upload, publish_given, step_publish, step_batch, step_place, step_indexer}
 use Rattle.indexing_run.specs.Steps as indexing
 use Rattle.root_search.specs.Requests.{ask_of, asked_of}
@@ -32,14 +32,14 @@ use Rattle.node_run.proofs.Calming.{Same, Calms, begun_count, begun_still, calm_
 abbrev pub StepCalms : Stepped → Stepped → Type 0
 StepCalms step calm_step = (step.outcome ≡ None) ⊎ (step ≡ calm_step)
 
-abbrev pub calm_indexing : indexing.Luck
+abbrev pub calm_indexing : indexing.IndexerLuck
 calm_indexing = indexing_luck calm
 
 checkpoints_calms : (log : Log) (indexer : Indexer) (g g' : Gives Trouble ⊤) → Calms no_memory g g' → StepCalms (checkpoints_given log indexer g) (checkpoints_given log indexer g')
 checkpoints_calms log indexer g g' (inl e) = inl (ap (λ r. (checkpoints_by r log indexer g.core).outcome) e)
 checkpoints_calms log indexer g g' (inr e) = inr (ap (checkpoints_given log indexer) e)
 
-take_calms : (luck : indexing.Luck) (log : Log) (indexer : Indexer) (core : Core) → IsStill core →
+take_calms : (luck : indexing.IndexerLuck) (log : Log) (indexer : Indexer) (core : Core) → IsStill core →
     StepCalms (take_checkpoints luck log indexer core) (take_checkpoints calm_indexing log indexer core)
 take_calms luck log indexer core s = checkpoints_calms log indexer (looked luck.world core) (looked calm_fate core) (looked_calms luck.world core s)
 
@@ -58,7 +58,7 @@ true_is_false e = cc
 called_same : (call : LogCall) (indexer : Indexer) → risen indexer.log_faults call.rises ≡ indexer.log_faults → log_called call indexer ≡ indexer
 called_same call indexer r = ap (λ n. record indexer { log_faults = n }) r
 
-module _ (luck : indexing.Luck) (log : Log) (indexer : Indexer) (core : Core) (s : IsStill core) (below : indexer.log_faults < last_count) where
+module _ (luck : indexing.IndexerLuck) (log : Log) (indexer : Indexer) (core : Core) (s : IsStill core) (below : indexer.log_faults < last_count) where
   abbrev SameLog : Stepped → Type 0
   SameLog step = step.indexer.log_faults ≡ indexer.log_faults
 
@@ -162,11 +162,11 @@ stage_calms : (batch : Batch) (indexer : Indexer) (g g' : Gives Unmade ⊤) → 
 stage_calms batch indexer g g' (inl e) = inl (ap (λ r. (indexing.stage_by r batch indexer g.core).outcome) e)
 stage_calms batch indexer g g' (inr e) = inr (ap (stage_given batch indexer) e)
 
-upload_calms : (held : Held) (indexer : Indexer) (g g' : Gives Trouble ⊤) → Calms no_memory g g' → StepCalms (upload_given held indexer g) (upload_given held indexer g')
+upload_calms : (held : IndexerHeld) (indexer : Indexer) (g g' : Gives Trouble ⊤) → Calms no_memory g g' → StepCalms (upload_given held indexer g) (upload_given held indexer g')
 upload_calms held indexer g g' (inl e) = inl (ap (λ r. (indexing.upload_by r held indexer g.core).outcome) e)
 upload_calms held indexer g g' (inr e) = inr (ap (upload_given held indexer) e)
 
-publish_calms : (held : Held) (indexer : Indexer) (g g' : Gives Unmade ⊤) → Calms (troubled no_memory) g g' → StepCalms (publish_given held indexer g) (publish_given held indexer g')
+publish_calms : (held : IndexerHeld) (indexer : Indexer) (g g' : Gives Unmade ⊤) → Calms (troubled no_memory) g g' → StepCalms (publish_given held indexer g) (publish_given held indexer g')
 publish_calms held indexer g g' (inl e) = inl (ap (λ r. (indexing.publish_by r held indexer g.core).outcome) e)
 publish_calms held indexer g g' (inr e) = inr (ap (publish_given held indexer) e)
 
@@ -174,7 +174,7 @@ publish_calms held indexer g g' (inr e) = inr (ap (publish_given held indexer) e
 handed : (core a b : Core) → b ≡ a → Same core b → Same core a
 handed core a b e same = sym (ap (λ c. c.store_faults) e) ∙ same
 
-module _ (luck : indexing.Luck) (log : Log) (indexer : Indexer) (core : Core) (s : IsStill core) (below : indexer.log_faults < last_count) where
+module _ (luck : indexing.IndexerLuck) (log : Log) (indexer : Indexer) (core : Core) (s : IsStill core) (below : indexer.log_faults < last_count) where
   abbrev StepIs : Stepped → Stepped → Type 0
   StepIs step calm_step = Same core step.core → step.indexer.log_faults ≡ indexer.log_faults → StepCalms step calm_step
 
@@ -191,13 +191,13 @@ module _ (luck : indexing.Luck) (log : Log) (indexer : Indexer) (core : Core) (s
       stage_calms batch indexer given (stage_call batch.parts (batch_facts batch) calm_fate core)
       (appended_calms luck.world (stage_act batch.parts (batch_facts batch)) core s (handed core given.core _ (stage_same given.answer batch indexer given.core) same))
 
-  step_upload_calms : (held : Held) → StepIs (step_upload luck held indexer core) (step_upload calm_indexing held indexer core)
+  step_upload_calms : (held : IndexerHeld) → StepIs (step_upload luck held indexer core) (step_upload calm_indexing held indexer core)
   step_upload_calms held same same_log =
       let given = file_made luck.world.first (split_key held.number) (file_of held.config held.documents) core in
       upload_calms held indexer given (file_made calm_call (split_key held.number) (file_of held.config held.documents) core)
       (file_made_calms luck.world.first (split_key held.number) (file_of held.config held.documents) core s (handed core given.core _ (upload_same given.answer held indexer given.core) same))
 
-  step_publish_calms : (held : Held) → StepIs (step_publish luck held indexer core) (step_publish calm_indexing held indexer core)
+  step_publish_calms : (held : IndexerHeld) → StepIs (step_publish luck held indexer core) (step_publish calm_indexing held indexer core)
   step_publish_calms held same same_log =
       let given = publish_call held.number luck.world core in
       publish_calms held indexer given (publish_call held.number calm_fate core)
@@ -215,7 +215,7 @@ module _ (luck : indexing.Luck) (log : Log) (indexer : Indexer) (core : Core) (s
       (stepped (Some said.CaughtUp) idle indexer core) (step_stage calm_indexing batch indexer core) (λ same same_log. inr refl) (step_stage_calms batch))
       (step_read_calms batch batch.queue)
 
-  place_calms : (place : Place) → StepIs (step_place place luck log indexer core) (step_place place calm_indexing log indexer core)
+  place_calms : (place : IndexerPlace) → StepIs (step_place place luck log indexer core) (step_place place calm_indexing log indexer core)
   place_calms idle same same_log = unless_calms luck log indexer core s below luck.log.short same_log
   place_calms (reading batch) same same_log = batch_calms batch same same_log
   place_calms (staged held) same same_log = step_upload_calms held same same_log
@@ -234,7 +234,7 @@ module _ (luck : indexing.Luck) (log : Log) (indexer : Indexer) (core : Core) (s
 abbrev pub SearchCalms : Searched → Searched → Type 0
 SearchCalms step calm_step = (step.outcome ≡ None) ⊎ (step ≡ calm_step)
 
-abbrev pub calm_searching : searching.Luck
+abbrev pub calm_searching : searching.ClientLuck
 calm_searching = searching_luck calm
 
 plan_none : (asked : Result Search Unanswered) (client : Client) (core : Core) → (plan_by (Err no_memory) asked client core).outcome ≡ None
@@ -255,7 +255,7 @@ fetch_calms : (plan : Plan) (number : ℕ) (more : List ℕ) (client : Client) (
 fetch_calms plan number more client g g' (inl e) = inl (ap (λ r. (fetch_by r plan number more client g.core).outcome) e)
 fetch_calms plan number more client g g' (inr e) = inr (ap (fetch_given plan number more client) e)
 
-module _ (luck : searching.Luck) (log : Log) (client : Client) (core : Core) (s : IsStill core) where
+module _ (luck : searching.ClientLuck) (log : Log) (client : Client) (core : Core) (s : IsStill core) where
   abbrev SearchIs : Searched → Searched → Type 0
   SearchIs step calm_step = Same core step.core → SearchCalms step calm_step
 

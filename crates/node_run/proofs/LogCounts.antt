@@ -11,17 +11,17 @@ use Rattle.index_world.specs.Core.{Core, last_count}
 use Rattle.index_world.specs.Gate.{stage_call, publish_call}
 use Rattle.index_world.specs.SplitFile.{file_of}
 use Rattle.indexing_run.specs.Outcomes as said
-use Rattle.indexing_run.specs.Places.{Batch, Held, Place, idle, reading, staged, uploaded, Indexer}
+use Rattle.indexing_run.specs.Places.{Batch, IndexerHeld, IndexerPlace, idle, reading, staged, uploaded, Indexer}
 use Rattle.indexing_run.specs.Steps.{Stepped, stepped, log_may_fail, log_called, take_checkpoints, idle_by, read_by, read_given, step_read, stage_by, step_stage, batch_facts, upload_by, publish_by, step_batch, step_place, step_indexer}
 use Rattle.indexing_run.specs.Steps as indexing
 use Rattle.root_search.specs.Steps.{Request, no_request, opened, planned, Client}
-use Rattle.upkeep_run.specs.Places.{Place as Worker}
+use Rattle.upkeep_run.specs.Places.{WorkerPlace as Worker}
 use Rattle.upkeep_run.specs.Steps.{step_worker}
 use Rattle.upkeep_run.specs.declared.work.Aim.{Aim}
 use Rattle.upkeep_run.specs.declared.work.Aim.TheVariants.{Deleting, Merging}
 use Rattle.node_run.specs.Calm.{log_counts}
 use Rattle.node_run.specs.Node.{Node, Line, At, Assign, StepIndexer, RestartIndexer, RestartClient, StepMerger, RestartMerger, StepDeleter, RestartDeleter, StepCollector, RestartCollector, RestartNode, Open, StepClient, Outcome}
-use Rattle.node_run.specs.Turns.{Luck, Turned, made_idle, indexer_at, indexing_luck, assign_at, indexer_turn_by, client_turn_by, client_named, working_luck, worker_turn_by, with_deleter, with_merger, collector_turn_by, open_by, restart_by, full_turn, quiet, or_quiet, turn_by, Turn, Turns}
+use Rattle.node_run.specs.Turns.{LineLuck, Turned, made_idle, indexer_at, indexing_luck, assign_at, indexer_turn_by, client_turn_by, client_named, working_luck, worker_turn_by, with_deleter, with_merger, collector_turn_by, open_by, restart_by, full_turn, quiet, or_quiet, turn_by, Turn, Turns}
 use Rattle.node_run.proofs.CalmSteps.{checkpoints_log}
 
 -- ---- one count
@@ -33,22 +33,22 @@ NotBelow a b = min a last_count ≤ b
 same_count : (a b : ℕ) → b ≡ a → NotBelow a b
 same_count a b e = omega (arith, e)
 
-take_count : (luck : indexing.Luck) (log : Log) (indexer : Indexer) (core : Core) → (take_checkpoints luck log indexer core).indexer.log_faults ≡ indexer.log_faults
+take_count : (luck : indexing.IndexerLuck) (log : Log) (indexer : Indexer) (core : Core) → (take_checkpoints luck log indexer core).indexer.log_faults ≡ indexer.log_faults
 take_count luck log indexer core = let given = looked luck.world core in checkpoints_log given.answer log indexer given.core
 
 stage_count : (r : Result ⊤ Unmade) (batch : Batch) (indexer : Indexer) (core : Core) → (stage_by r batch indexer core).indexer.log_faults ≡ indexer.log_faults
 stage_count (Ok done) batch indexer core = refl
 stage_count (Err e) batch indexer core = refl
 
-upload_count : (r : Result ⊤ Trouble) (held : Held) (indexer : Indexer) (core : Core) → (upload_by r held indexer core).indexer.log_faults ≡ indexer.log_faults
+upload_count : (r : Result ⊤ Trouble) (held : IndexerHeld) (indexer : Indexer) (core : Core) → (upload_by r held indexer core).indexer.log_faults ≡ indexer.log_faults
 upload_count (Ok done) held indexer core = refl
 upload_count (Err e) held indexer core = refl
 
-publish_count : (r : Result ⊤ Unmade) (held : Held) (indexer : Indexer) (core : Core) → (publish_by r held indexer core).indexer.log_faults ≡ indexer.log_faults
+publish_count : (r : Result ⊤ Unmade) (held : IndexerHeld) (indexer : Indexer) (core : Core) → (publish_by r held indexer core).indexer.log_faults ≡ indexer.log_faults
 publish_count (Ok done) held indexer core = refl
 publish_count (Err e) held indexer core = refl
 
-module _ (luck : indexing.Luck) (log : Log) (indexer : Indexer) where
+module _ (luck : indexing.IndexerLuck) (log : Log) (indexer : Indexer) where
   abbrev Counts : Stepped → Type 0
   Counts step = NotBelow indexer.log_faults step.indexer.log_faults
 
@@ -90,7 +90,7 @@ module _ (luck : indexing.Luck) (log : Log) (indexer : Indexer) where
   unless_counts true core = called_counts
   unless_counts false core = idle_counts (log_may_fail luck.log indexer.log_faults) indexer.assignment core
 
-  place_counts : (place : Place) (core : Core) → Counts (step_place place luck log indexer core)
+  place_counts : (place : IndexerPlace) (core : Core) → Counts (step_place place luck log indexer core)
   place_counts idle core = unless_counts luck.log.short core
   place_counts (reading batch) core = batch_counts batch core
   place_counts (staged held) core =
@@ -152,31 +152,31 @@ module _ (node : Node) where
   set_idle : (i : ℕ) → NoneFell (log_counts node.indexers) (log_counts (slice_set node.indexers i (made_idle (indexer_at node.indexers i))))
   set_idle i = set_counts node.indexers i (made_idle (indexer_at node.indexers i)) (same_count (indexer_at node.indexers i).log_faults _ refl)
 
-  assign_counted : (place : Place) (i : ℕ) (names : List (List ℕ)) → Counted (assign_at place i names (indexer_at node.indexers i) node).node
+  assign_counted : (place : IndexerPlace) (i : ℕ) (names : List (List ℕ)) → Counted (assign_at place i names (indexer_at node.indexers i) node).node
   assign_counted idle i names =
       set_counts node.indexers i (record (indexer_at node.indexers i) { assignment = Some names }) (same_count (indexer_at node.indexers i).log_faults _ refl)
   assign_counted (reading batch) i names = unchanged node.indexers refl
   assign_counted (staged held) i names = unchanged node.indexers refl
   assign_counted (uploaded held) i names = unchanged node.indexers refl
 
-  indexer_counted : (down : Bool) (luck : Luck) (i : ℕ) → Counted (indexer_turn_by down luck i node).node
+  indexer_counted : (down : Bool) (luck : LineLuck) (i : ℕ) → Counted (indexer_turn_by down luck i node).node
   indexer_counted true luck i = unchanged node.indexers refl
   indexer_counted false luck i =
       let step = step_indexer (indexing_luck luck) node.log (indexer_at node.indexers i) node.core in
       set_counts node.indexers i step.indexer (indexer_counts (indexing_luck luck) node.log (indexer_at node.indexers i) node.core)
 
-  client_counted : (down : Bool) (luck : Luck) (name : List ℕ) → Counted (client_turn_by down luck name node).node
+  client_counted : (down : Bool) (luck : LineLuck) (name : List ℕ) → Counted (client_turn_by down luck name node).node
   client_counted true luck name = unchanged node.indexers refl
   client_counted false luck name = unchanged node.indexers refl
 
   -- what is kept of a worker leaves the indexers as they are
-  worker_counted : (down : Bool) (aim : Aim) (worker : Worker) (keep : Worker → Node → Node) (luck : Luck) → ((place : Worker) → (keep place node).indexers ≡ node.indexers) →
+  worker_counted : (down : Bool) (aim : Aim) (worker : Worker) (keep : Worker → Node → Node) (luck : LineLuck) → ((place : Worker) → (keep place node).indexers ≡ node.indexers) →
       Counted (worker_turn_by down aim worker keep luck node).node
   worker_counted true aim worker keep luck same = unchanged node.indexers refl
   worker_counted false aim worker keep luck same =
       let step = step_worker aim (working_luck luck) node.log worker node.core in unchanged (keep step.place node).indexers (ap log_counts (same step.place))
 
-  collector_counted : (down : Bool) (luck : Luck) → Counted (collector_turn_by down luck node).node
+  collector_counted : (down : Bool) (luck : LineLuck) → Counted (collector_turn_by down luck node).node
   collector_counted true luck = unchanged node.indexers refl
   collector_counted false luck = unchanged node.indexers refl
 
@@ -191,7 +191,7 @@ module _ (node : Node) where
   restart_counted (Err (not_read no_memory)) core = unchanged (map made_idle node.indexers) (idle_same node.indexers)
   restart_counted (Err calls.no_index) core = unchanged (map made_idle node.indexers) (idle_same node.indexers)
 
-  full_counted : (luck : Luck) (line : Line) → Counted (full_turn luck node line).node
+  full_counted : (luck : LineLuck) (line : Line) → Counted (full_turn luck node line).node
   full_counted luck (At moment) = unchanged node.indexers refl
   full_counted luck (Assign i names) = assign_counted (indexer_at node.indexers i).place i names
   full_counted luck (StepIndexer i) = indexer_counted node.down luck i
@@ -231,7 +231,7 @@ or_quiet_counted true node line turn h =
     none_fell_on (log_counts node.indexers) (log_counts turn.node.indexers) (log_counts (quiet line turn.node).indexers) h (quiet_counted turn.node line)
 or_quiet_counted false node line turn h = h
 
-turn_by_counted : (b : Bool) (luck : Luck) (node : Node) (line : Line) → NodeCounted node (turn_by b luck node line).node
+turn_by_counted : (b : Bool) (luck : LineLuck) (node : Node) (line : Line) → NodeCounted node (turn_by b luck node line).node
 turn_by_counted true luck node line = quiet_counted node line
 turn_by_counted false luck node line = or_quiet_counted luck.short node line (full_turn luck node line) (full_counted node luck line)
 

@@ -10,7 +10,7 @@ use Rattle.index_world.specs.Calls as calls
 use Rattle.index_world.specs.Core.{Core}
 use Rattle.index_world.specs.Gate.{stage_act, task_act, task_call}
 use Rattle.index_world.specs.SplitFile.{file_of}
-use Rattle.indexing_run.specs.Places.{Batch, Held, Place, idle, reading, staged, uploaded, Indexer}
+use Rattle.indexing_run.specs.Places.{Batch, IndexerHeld, IndexerPlace, idle, reading, staged, uploaded, Indexer}
 use Rattle.indexing_run.specs.Steps.{Stepped, log_may_fail, log_called, checkpoints_by, take_checkpoints, idle_by, read_by, read_given, step_read, stage_by, step_stage, batch_facts, upload_by, step_upload, publish_by, step_publish, step_batch, step_place, step_indexer}
 use Rattle.indexing_run.specs.Steps as indexing
 use Rattle.root_search.specs.Requests.{ask_of, asked_of}
@@ -21,11 +21,11 @@ use Rattle.search_api.specs.Resolved.{Asked, IsDelete, IsSearch, Search}
 use Rattle.search_api.specs.declared.reply.Refusal.{Refusal}
 use Rattle.search_api.specs.declared.unanswered.Unanswered.{Unanswered}
 use Rattle.search_api.specs.declared.unanswered.Unanswered.TheVariants as reasons
-use Rattle.upkeep_run.specs.Places.{Place as Worker}
+use Rattle.upkeep_run.specs.Places.{WorkerPlace as Worker}
 use Rattle.upkeep_run.specs.declared.work.Aim.{Aim}
 use Rattle.upkeep_run.specs.declared.work.Aim.TheVariants.{Deleting, Merging}
 use Rattle.node_run.specs.Node.{Node, Line, At, Assign, StepIndexer, RestartIndexer, RestartClient, StepMerger, RestartMerger, StepDeleter, RestartDeleter, StepCollector, RestartCollector, RestartNode, Open, StepClient, Outcome}
-use Rattle.node_run.specs.Turns.{Luck, Turned, indexer_at, indexing_luck, searching_luck, assign_at, indexer_turn_by, client_turn_by, client_named, working_luck, worker_turn_by, with_deleter, with_merger, collecting_luck, collector_turn_by, open_by, restart_by, full_turn, quiet, or_quiet, turn_by, Turn, Turns}
+use Rattle.node_run.specs.Turns.{LineLuck, Turned, indexer_at, indexing_luck, searching_luck, assign_at, indexer_turn_by, client_turn_by, client_named, working_luck, worker_turn_by, with_deleter, with_merger, collecting_luck, collector_turn_by, open_by, restart_by, full_turn, quiet, or_quiet, turn_by, Turn, Turns}
 use Rattle.node_run.proofs.CallMoves.{Later, Moves, same, stays, later_same, later_on, moves_on, appended_moves, looked_moves, asked_and_looked_moves, asked_moves, file_made_moves, each_moves, loaded_moves}
 use Rattle.node_run.proofs.CollectorMoves.{collector_moves}
 use Rattle.node_run.proofs.WorkerMoves.{worker_moves}
@@ -40,24 +40,24 @@ pub stage_same : (r : Result ⊤ Unmade) (batch : Batch) (indexer : Indexer) (co
 stage_same (Ok done) batch indexer core = refl
 stage_same (Err trouble) batch indexer core = refl
 
-pub upload_same : (r : Result ⊤ Trouble) (held : Held) (indexer : Indexer) (core : Core) → (upload_by r held indexer core).core ≡ core
+pub upload_same : (r : Result ⊤ Trouble) (held : IndexerHeld) (indexer : Indexer) (core : Core) → (upload_by r held indexer core).core ≡ core
 upload_same (Ok done) held indexer core = refl
 upload_same (Err trouble) held indexer core = refl
 
-pub publish_same : (r : Result ⊤ Unmade) (held : Held) (indexer : Indexer) (core : Core) → (publish_by r held indexer core).core ≡ core
+pub publish_same : (r : Result ⊤ Unmade) (held : IndexerHeld) (indexer : Indexer) (core : Core) → (publish_by r held indexer core).core ≡ core
 publish_same (Ok done) held indexer core = refl
 publish_same (Err trouble) held indexer core = refl
 
-take_moves : (luck : indexing.Luck) (log : Log) (indexer : Indexer) (core : Core) → Moves core (take_checkpoints luck log indexer core).core
+take_moves : (luck : indexing.IndexerLuck) (log : Log) (indexer : Indexer) (core : Core) → Moves core (take_checkpoints luck log indexer core).core
 take_moves luck log indexer core =
     moves_on (looked_moves luck.world core) (same (checkpoints_same _ log indexer _))
 
-read_same : (b : Bool) (luck : indexing.Luck) (log : Log) (batch : Batch) (mark : Checkpoint) (rest : List Checkpoint) (indexer : Indexer) (core : Core) →
+read_same : (b : Bool) (luck : indexing.IndexerLuck) (log : Log) (batch : Batch) (mark : Checkpoint) (rest : List Checkpoint) (indexer : Indexer) (core : Core) →
     (read_by b luck log batch mark rest indexer core).core ≡ core
 read_same true luck log batch mark rest indexer core = refl
 read_same false luck log batch mark rest indexer core = refl
 
-pub given_same : (luck : indexing.Luck) (log : Log) (batch : Batch) (mark : Checkpoint) (rest : List Checkpoint) (indexer : Indexer) (r : Result ⊤ Trouble) (core : Core) →
+pub given_same : (luck : indexing.IndexerLuck) (log : Log) (batch : Batch) (mark : Checkpoint) (rest : List Checkpoint) (indexer : Indexer) (r : Result ⊤ Trouble) (core : Core) →
     (read_given luck log batch mark rest indexer r core).core ≡ core
 given_same luck log batch mark rest indexer (Err trouble) core = refl
 given_same luck log batch mark rest indexer (Ok done) core = read_same (log_may_fail luck.log indexer.log_faults) luck log batch mark rest indexer core
@@ -70,7 +70,7 @@ indexer_short_same : (b : Bool) (step : Stepped) → (indexing.or_short b step).
 indexer_short_same true step = refl
 indexer_short_same false step = refl
 
-module _ (luck : indexing.Luck) (log : Log) (indexer : Indexer) (core : Core) where
+module _ (luck : indexing.IndexerLuck) (log : Log) (indexer : Indexer) (core : Core) where
   idle_moves : (b : Bool) (names : Option (List (List ℕ))) → Moves core (idle_by b names luck log indexer core).core
   idle_moves true None = stays refl
   idle_moves false None = take_moves luck log (log_called luck.log indexer) core
@@ -90,11 +90,11 @@ module _ (luck : indexing.Luck) (log : Log) (indexer : Indexer) (core : Core) wh
   stage_moves batch =
       moves_on (appended_moves luck.world (stage_act batch.parts (batch_facts batch)) core) (same (stage_same _ batch indexer _))
 
-  upload_moves : (held : Held) → Moves core (step_upload luck held indexer core).core
+  upload_moves : (held : IndexerHeld) → Moves core (step_upload luck held indexer core).core
   upload_moves held =
       moves_on (file_made_moves luck.world.first (split_key held.number) (file_of held.config held.documents) core) (same (upload_same _ held indexer _))
 
-  publish_moves : (held : Held) → Moves core (step_publish luck held indexer core).core
+  publish_moves : (held : IndexerHeld) → Moves core (step_publish luck held indexer core).core
   publish_moves held =
       moves_on (appended_moves luck.world (λ c. Publish held.number) core) (same (publish_same _ held indexer _))
 
@@ -102,7 +102,7 @@ module _ (luck : indexing.Luck) (log : Log) (indexer : Indexer) (core : Core) wh
   batch_moves batch =
       choice_moves batch.closed _ _ (choice_moves (batch.count == 0) _ _ (stays refl) (stage_moves batch)) (read_moves batch batch.queue)
 
-  place_moves : (place : Place) → Moves core (step_place place luck log indexer core).core
+  place_moves : (place : IndexerPlace) → Moves core (step_place place luck log indexer core).core
   place_moves idle = unless_moves luck.log.short
   place_moves (reading batch) = batch_moves batch
   place_moves (staged held) = upload_moves held
@@ -137,7 +137,7 @@ client_short_same : (b : Bool) (client : Client) (step : searching.Searched) →
 client_short_same true client step = refl
 client_short_same false client step = refl
 
-module _ (luck : searching.Luck) (log : Log) (client : Client) (core : Core) where
+module _ (luck : searching.ClientLuck) (log : Log) (client : Client) (core : Core) where
   next_moves : (plan : Plan) (unfetched : List ℕ) → Moves core (next_step luck log plan unfetched client core).core
   next_moves plan [] = stays refl
   next_moves plan (number ∷ more) =
@@ -165,7 +165,7 @@ module _ (luck : searching.Luck) (log : Log) (client : Client) (core : Core) whe
 
 -- ---- a line
 
-pub assign_same : (place : Place) (i : ℕ) (names : List (List ℕ)) (indexer : Indexer) (node : Node) → (assign_at place i names indexer node).node.core ≡ node.core
+pub assign_same : (place : IndexerPlace) (i : ℕ) (names : List (List ℕ)) (indexer : Indexer) (node : Node) → (assign_at place i names indexer node).node.core ≡ node.core
 assign_same idle i names indexer node = refl
 assign_same (reading batch) i names indexer node = refl
 assign_same (staged held) i names indexer node = refl
@@ -182,24 +182,24 @@ restart_same (Err (not_read (faulted fault))) core node = refl
 restart_same (Err (not_read no_memory)) core node = refl
 restart_same (Err calls.no_index) core node = refl
 
-pub indexer_turn_moves : (down : Bool) (luck : Luck) (i : ℕ) (node : Node) → Moves node.core (indexer_turn_by down luck i node).node.core
+pub indexer_turn_moves : (down : Bool) (luck : LineLuck) (i : ℕ) (node : Node) → Moves node.core (indexer_turn_by down luck i node).node.core
 indexer_turn_moves true luck i node = stays refl
 indexer_turn_moves false luck i node = indexer_moves (indexing_luck luck) node.log (indexer_at node.indexers i) node.core
 
-pub client_turn_moves : (down : Bool) (luck : Luck) (name : List ℕ) (node : Node) → Moves node.core (client_turn_by down luck name node).node.core
+pub client_turn_moves : (down : Bool) (luck : LineLuck) (name : List ℕ) (node : Node) → Moves node.core (client_turn_by down luck name node).node.core
 client_turn_moves true luck name node = stays refl
 client_turn_moves false luck name node = client_moves (searching_luck luck) node.log (client_named name node.clients) node.core
 
-pub worker_turn_moves : (down : Bool) (aim : Aim) (worker : Worker) (keep : Worker → Node → Node) (luck : Luck) (node : Node) →
+pub worker_turn_moves : (down : Bool) (aim : Aim) (worker : Worker) (keep : Worker → Node → Node) (luck : LineLuck) (node : Node) →
     Moves node.core (worker_turn_by down aim worker keep luck node).node.core
 worker_turn_moves true aim worker keep luck node = stays refl
 worker_turn_moves false aim worker keep luck node = worker_moves (working_luck luck) node.log node.core aim worker
 
-pub collector_turn_moves : (down : Bool) (luck : Luck) (node : Node) → Moves node.core (collector_turn_by down luck node).node.core
+pub collector_turn_moves : (down : Bool) (luck : LineLuck) (node : Node) → Moves node.core (collector_turn_by down luck node).node.core
 collector_turn_moves true luck node = stays refl
 collector_turn_moves false luck node = collector_moves (collecting_luck luck) node.core
 
-full_later : (luck : Luck) (node : Node) (line : Line) → Later node.core (full_turn luck node line).node.core
+full_later : (luck : LineLuck) (node : Node) (line : Line) → Later node.core (full_turn luck node line).node.core
 full_later luck node (At moment) = later_same refl refl
 full_later luck node (Assign i names) =
     (same (assign_same (indexer_at node.indexers i).place i names (indexer_at node.indexers i) node)).later
@@ -238,7 +238,7 @@ or_quiet_same : (b : Bool) (line : Line) (turn : Turned) → (or_quiet b line tu
 or_quiet_same true line turn = quiet_same line turn.node
 or_quiet_same false line turn = refl
 
-turn_by_later : (b : Bool) (luck : Luck) (node : Node) (line : Line) → Later node.core (turn_by b luck node line).node.core
+turn_by_later : (b : Bool) (luck : LineLuck) (node : Node) (line : Line) → Later node.core (turn_by b luck node line).node.core
 turn_by_later true luck node line = (same (quiet_same line node)).later
 turn_by_later false luck node line =
     later_on (full_later luck node line) (same (or_quiet_same luck.short line (full_turn luck node line))).later

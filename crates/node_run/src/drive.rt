@@ -14,7 +14,7 @@ ghost use Rattle.root_search.specs.Searching.{SearcherStands};
 ghost use Rattle.root_search.specs.Steps.{Client as Asker, without_request};
 ghost use Rattle.split_collector.specs.Ending.{CallsTo};
 ghost use Rattle.split_collector.specs.Turns.{ended, to_mark};
-ghost use Rattle.upkeep_run.specs.Places.{Place as Worker};
+ghost use Rattle.upkeep_run.specs.Places.{WorkerPlace as Worker};
 ghost use Rattle.upkeep_run.specs.Standing.{PlaceStands};
 ghost use Rattle.upkeep_run.specs.declared.work.Aim.TheVariants.{Deleting, Merging};
 ghost use Rattle.node_run.specs.Alone.{CollectsAlone, SearchesAlone, StepsAlone, WorksAlone};
@@ -32,10 +32,9 @@ ghost use Rattle.node_run.specs.Turns.{made_idle, quiet, stopped};
 
 use crate::line::Line;
 use crate::logs::Logs;
-use crate::name::Name;
 use crate::out_line::OutLine;
 use byte_fields::{Client, Text};
-use clock_time::ScriptClock;
+use clock_time::{MOMENT_END, ScriptClock};
 use index_world::{Direct, World, WorldError};
 use indexing_run::{Indexer, IndexerOutcome};
 use object_store::ObjectStore;
@@ -51,8 +50,6 @@ use upkeep_run::{DeleteWorker, Merger, UpkeepOutcome};
 /// How many clients an input may name.
 pub const MAX_CLIENTS: u64 = 10_000;
 
-const MOMENT_END: u64 = 1 << 62;
-
 /// A node: a world, one indexer for each log, a merger, a delete worker, a collector, and one searcher for each client
 /// that a line named.
 pub struct DriveNode<S: ObjectStore, L: SourceLog> {
@@ -63,7 +60,7 @@ pub struct DriveNode<S: ObjectStore, L: SourceLog> {
     collector: Collector,
     clients: Vec<Searcher>,
     // The place of each client among the searchers.
-    places: BTreeMap<Name, usize>,
+    places: BTreeMap<Client, usize>,
     // What the clock tells.
     moment: u64,
     // The last restart of the node failed.
@@ -183,12 +180,16 @@ fn assign<L: SourceLog>(indexer: &mut Indexer<L>, partitions: Partitions) -> Opt
 }
 
 // The place of a client's searcher, where the client was named before.
-fn place_of(clients: &[Searcher], places: &BTreeMap<Name, usize>, client: &Client) -> Option<usize>
+fn place_of(
+    clients: &[Searcher],
+    places: &BTreeMap<Client, usize>,
+    client: &Client,
+) -> Option<usize>
     ensures within { IfSome result (λ place. place < length clients.now) }
     ensures exact { (names : List (List ℕ)) → length names ≡ length clients.now → HasPlaces places.now.entries names →
         result ≡ place_in client.now names }
 {
-    match places.get(&Name::of(client)) {
+    match places.get(client) {
         Some(place) if *place < clients.len() => Some(*place),
         _ => None,
     }
@@ -197,7 +198,7 @@ fn place_of(clients: &[Searcher], places: &BTreeMap<Name, usize>, client: &Clien
 // The place of a client's searcher, which begins where the client wasn't named yet.
 fn known(
     clients: &mut Vec<Searcher>,
-    places: &mut BTreeMap<Name, usize>,
+    places: &mut BTreeMap<Client, usize>,
     client: &Client,
 ) -> Result<usize, AllocError>
     ensures bound { IfOk result (λ place. place < vec_len clients.new) }
@@ -214,7 +215,7 @@ fn known(
         None => {
             let place = clients.len();
             clients.reserve(1)?;
-            places.insert(Name::of(client), place)?;
+            places.insert(*client, place)?;
             match clients.push(Searcher::start(*client)) {
                 Ok(()) => Ok(place),
                 Err(_) => unreachable!(),

@@ -19,14 +19,14 @@ use Rattle.split_states.specs.declared.rows.Row.{Row}
 use Rattle.split_states.specs.declared.rows.RowState.TheVariants.{Published}
 use Rattle.source_checkpoint.specs.declared.ledger.Checkpoint.{Checkpoint}
 use Rattle.source_log.specs.Log.{Log}
-use Rattle.index_world.specs.Calls.{Effect, done_at_once, done_late, done_never, is_at_once, Fate, Call, Trouble, faulted, no_memory, Unmade, Unread, not_read, Gives, Made, made, exists, failed, risen, may_fail, entry_lands, file_lands, land_at, all_landed, begun, tried, made_behind, made_at, create_at_end, taken_in, or_short, unless_short, asked_clock, asked_moment, asking, and_then_by, taken_unless, got_at, get_at_end, settle_made, settle_with, settled, fence_of, entry_of, may_append, last_made, last_unless, last_create, troubled_by, as_unmade, adopted_made, first_unless, transact, appended, looked, asked_and_looked, asked, file_by, file_made, got_file, file_got, Grace, unless_over, fetched, with_standing, reborn, read_journal, unless_empty, load_by, loaded}
+use Rattle.index_world.specs.Calls.{Effect, done_at_once, done_late, done_never, is_at_once, Fate, Call, Trouble, no_memory, Unmade, Unread, not_read, Gives, Made, made, exists, failed, risen, may_fail, entry_lands, file_lands, land_at, all_landed, begun, tried, made_behind, made_at, create_at_end, taken_in, or_short, unless_short, asked_clock, asked_moment, asking, and_then_by, taken_unless, got_at, get_at_end, settle_made, settle_with, settled, fence_of, entry_of, may_append, last_made, last_unless, last_create, troubled_by, as_unmade, adopted_made, first_unless, transact, appended, looked, asked_and_looked, asked, file_by, file_made, got_file, file_got, Grace, unless_over, fetched, with_standing, reborn, read_journal, unless_empty, load_by, loaded}
 use Rattle.index_world.specs.Calls as calls
 use Rattle.index_world.specs.Created.{first_made, created_by, created_behind, created}
 use Rattle.index_world.specs.Core.{Core, clock_of, File, Late, late_entry, late_dead, late_file, file_at, with_unread, journal_of}
 use Rattle.index_world.specs.Gate.{stage_act, task_act, task_call}
 use Rattle.index_world.specs.SplitFile.{file_of}
 use Rattle.index_world.proofs.StoreKeys.{none_some}
-use Rattle.indexing_run.specs.Places.{Batch, Held, Place, idle, reading, staged, uploaded, Indexer}
+use Rattle.indexing_run.specs.Places.{Batch, IndexerHeld, IndexerPlace, idle, reading, staged, uploaded, Indexer}
 use Rattle.indexing_run.specs.Steps.{Stepped, log_may_fail, log_called, take_checkpoints, idle_by, step_read, step_stage, batch_facts, step_upload, step_publish, step_batch, step_place, step_indexer}
 use Rattle.indexing_run.specs.Steps as indexing
 use Rattle.root_search.specs.Requests.{ask_of, asked_of}
@@ -612,7 +612,7 @@ indexer_short_same : (b : Bool) (step : Stepped) → (indexing.or_short b step).
 indexer_short_same true step = refl
 indexer_short_same false step = refl
 
-module _ (luck : indexing.Luck) (log : Log) (core : Core) where
+module _ (luck : indexing.IndexerLuck) (log : Log) (core : Core) where
   take_few : (indexer : Indexer) → Takes Few core (take_checkpoints luck log indexer core).core
   take_few indexer = same (weaker One Few one_few (looked_one luck.world core)) (checkpoints_same _ log indexer _)
 
@@ -633,17 +633,17 @@ module _ (luck : indexing.Luck) (log : Log) (core : Core) where
   stage_few : (indexer : Indexer) (batch : Batch) → Takes Few core (step_stage luck batch indexer core).core
   stage_few indexer batch = same (appended_few (stage_act batch.parts (batch_facts batch)) (λ c. tt) luck.world core) (stage_same _ batch indexer _)
 
-  upload_few : (indexer : Indexer) (held : Held) → Takes Few core (step_upload luck held indexer core).core
+  upload_few : (indexer : Indexer) (held : IndexerHeld) → Takes Few core (step_upload luck held indexer core).core
   upload_few indexer held = same (file_made_few luck.world.first (split_key held.number) (file_of held.config held.documents) core) (upload_same _ held indexer _)
 
-  publish_few : (indexer : Indexer) (held : Held) → Takes Few core (step_publish luck held indexer core).core
+  publish_few : (indexer : Indexer) (held : IndexerHeld) → Takes Few core (step_publish luck held indexer core).core
   publish_few indexer held = same (appended_few (λ c. Publish held.number) (λ c. tt) luck.world core) (publish_same _ held indexer _)
 
   batch_few : (indexer : Indexer) (batch : Batch) → Takes Few core (step_batch luck log batch indexer core).core
   batch_few indexer batch =
       choice_few batch.closed _ _ (choice_few (batch.count == 0) _ _ (none Few tt (still core)) (stage_few indexer batch)) (read_few indexer batch batch.queue)
 
-  place_few : (indexer : Indexer) (place : Place) → Takes Few core (step_place place luck log indexer core).core
+  place_few : (indexer : Indexer) (place : IndexerPlace) → Takes Few core (step_place place luck log indexer core).core
   place_few indexer idle = unless_few indexer luck.log.short
   place_few indexer (reading batch) = batch_few indexer batch
   place_few indexer (staged held) = upload_few indexer held
@@ -658,7 +658,7 @@ client_short_same : (b : Bool) (client : Client) (step : searching.Searched) →
 client_short_same true client step = refl
 client_short_same false client step = refl
 
-module _ (luck : searching.Luck) (log : Log) (client : Client) (core : Core) where
+module _ (luck : searching.ClientLuck) (log : Log) (client : Client) (core : Core) where
   next_few : (plan : Plan) (unfetched : List ℕ) → Takes Few core (next_step luck log plan unfetched client core).core
   next_few plan [] = none Few tt (still core)
   next_few plan (number ∷ more) = same (none Few tt (each_still plan.grace luck.more luck.world core)) (fetch_same _ plan number more client _)

@@ -21,11 +21,11 @@ use Rattle.index_world.specs.Seen.{visible, visible_at}
 use Rattle.index_world.proofs.Asking.{Begun, begun_history}
 use Rattle.index_world.proofs.Numbers.{revision_is}
 use Rattle.indexing_run.specs.Outcomes.{IndexerOutcome}
-use Rattle.indexing_run.specs.Places.{Place, idle, reading, staged, uploaded, Indexer}
+use Rattle.indexing_run.specs.Places.{IndexerPlace, idle, reading, staged, uploaded, Indexer}
 use Rattle.indexing_run.specs.Steps.{step_indexer}
 use Rattle.root_search.specs.Answer.{answer}
 use Rattle.root_search.specs.Requests.{ask_of, asked_of}
-use Rattle.root_search.specs.Steps.{Client, Request, no_request, opened, planned, Plan, Luck, Searched, delete_by, fault_refusal, opened_by, plan_by, plan_given, reply_with, state_refusal, trouble_replied, refused_over, fetch_by, fetched_each, config_at, config_in, next_step, step_request, or_short, step_client, answer_of, without_request}
+use Rattle.root_search.specs.Steps.{Client, Request, no_request, opened, planned, Plan, ClientLuck, Searched, delete_by, fault_refusal, opened_by, plan_by, plan_given, reply_with, state_refusal, trouble_replied, refused_over, fetch_by, fetched_each, config_at, config_in, next_step, step_request, or_short, step_client, answer_of, without_request}
 use Rattle.root_search.specs.declared.outcome.SearchStep.{SearchStep}
 use Rattle.root_search.specs.declared.outcome.SearchStep.TheVariants.{Idle, Planned, Fetched, Replied}
 use Rattle.root_search.proofs.Steps.{as_asked, delete_core}
@@ -83,6 +83,7 @@ OnRequest exit least known front len no_request = Unit {0}
 OnRequest exit least known front len (opened text) = known.text ≡ text
 OnRequest exit least known front len (planned plan) =
     (asked_of (config_then plan.revision exit) known.text ≡ Ok (IsSearch plan.search)) × (least ≤ plan.revision) × (front ≤ plan.revision) × (plan.revision ≤ len)
+    × (0 < plan.revision)
 
 pub record Agrees (exit : List Entry) (least len : ℕ) (name : List ℕ) (known : Known) (client : Client) : Type 0 where
   pub known_name : known.name ≡ name
@@ -97,7 +98,7 @@ AllAgree exit least len known client = (name : List ℕ) → Agrees exit least l
 on-more : (exit : List Entry) (least : ℕ) (known : Known) (front len more : ℕ) (request : Request) → len ≤ more → OnRequest exit least known front len request → OnRequest exit least known front more request
 on-more exit least known front len more no_request h r = tt
 on-more exit least known front len more (opened text) h r = r
-on-more exit least known front len more (planned plan) h r = (r.0, r.1, r.2, omega (arith, h, r.3))
+on-more exit least known front len more (planned plan) h r = (r.0, r.1, r.2, omega (arith, h, r.3), r.4)
 
 agrees-more : (exit : List Entry) (least len more : ℕ) (name : List ℕ) (known : Known) (client : Client) → len ≤ more → Agrees exit least len name known client → Agrees exit least more name known client
 agrees-more exit least len more name known client h a =
@@ -147,10 +148,15 @@ longer : (a b : Core) → Grows a b → length a.history ≤ length b.history
 longer a b g = let e : length b.history ≡ length a.history + length g.0 = ap length g.1 ∙ length-append a.history g.0 in omega (arith, e)
 
 -- The journal at exit is a legal one, and this core has taken in an entry at least, and as many as stood at entry.
-record Ready (exit : List Entry) (least : ℕ) (core : Core) : Type 0 where
-  legal : Legal reads (history exit)
-  low : least ≤ length core.history
-  some : 0 < length core.history
+pub record Ready (exit : List Entry) (least : ℕ) (core : Core) : Type 0 where
+  pub legal : Legal reads (history exit)
+  pub low : least ≤ length core.history
+  pub some : 0 < length core.history
+
+-- so is one that took in more
+pub ready_on : (exit : List Entry) (least : ℕ) (core after : Core) → Ready exit least core → length core.history ≤ length after.history → Ready exit least after
+ready_on exit least core after ready up =
+    record { legal = ready.legal; low = let l = ready.low in omega (arith, l, up); some = let l = ready.some in omega (arith, l, up) }
 
 pub prefix_on : (a b c : List Entry) → IsPrefixOf a b → IsPrefixOf b c → IsPrefixOf a c
 prefix_on a b c g h = (g.0 ++ h.0, h.1 ∙ ap (λ l. l ++ h.0) g.1 ∙ append_assoc a g.0 h.0)
@@ -218,8 +224,8 @@ module _ (exit : List Entry) (log : Log) (least from : ℕ) (knowns : List Known
 
   plan_went : (r : Result ⊤ Trouble) (asked : Result Search Unanswered) (text : List ℕ) (client : Client) (core : Core) →
       Agrees exit least (length core.history) name (known_of name knowns) client → (known_of name knowns).text ≡ text →
-      asked_of (config_then (length core.history) exit) text ≡ as_asked asked → least ≤ length core.history → OfText asked → StepWent (plan_by r asked client core)
-  plan_went (Ok done) (Ok search) text client core a t w l h =
+      asked_of (config_then (length core.history) exit) text ≡ as_asked asked → least ≤ length core.history → 0 < length core.history → OfText asked → StepWent (plan_by r asked client core)
+  plan_went (Ok done) (Ok search) text client core a t w l some h =
       let step = plan_by (Ok done) (Ok search) client core in
       said_went (Planned _ _) step.client core
       (record {
@@ -228,17 +234,17 @@ module _ (exit : List Entry) (log : Log) (least from : ℕ) (knowns : List Known
           client_name = a.client_name;
           front = a.front;
           bound = a.bound;
-          request = (ap (asked_of (config_then (length core.history) exit)) t ∙ w, l, a.bound, omega arith);
+          request = (ap (asked_of (config_then (length core.history) exit)) t ∙ w, l, a.bound, omega arith, some);
         };
         answers = tt;
         deletes = tt;
       })
-  plan_went (Ok done) (Err (reasons.Refused refusal)) text client core a t w l h =
+  plan_went (Ok done) (Err (reasons.Refused refusal)) text client core a t w l some h =
       refusal_went (length core.history) refusal client core a a.bound (omega arith) (text_cause exit from (length core.history) refusal h)
-  plan_went (Ok done) (Err (reasons.Memory e)) text client core a t w l h = unsaid_went (without_request client) core
-  plan_went (Err trouble) (Ok search) text client core a t w l h = trouble_went client.front trouble client core a (omega arith) a.bound
-  plan_went (Err trouble) (Err (reasons.Refused refusal)) text client core a t w l h = refused_went client.front refusal trouble client core a (omega arith) a.bound h
-  plan_went (Err trouble) (Err (reasons.Memory e)) text client core a t w l h = unsaid_went (without_request client) core
+  plan_went (Ok done) (Err (reasons.Memory e)) text client core a t w l some h = unsaid_went (without_request client) core
+  plan_went (Err trouble) (Ok search) text client core a t w l some h = trouble_went client.front trouble client core a (omega arith) a.bound
+  plan_went (Err trouble) (Err (reasons.Refused refusal)) text client core a t w l some h = refused_went client.front refusal trouble client core a (omega arith) a.bound h
+  plan_went (Err trouble) (Err (reasons.Memory e)) text client core a t w l some h = unsaid_went (without_request client) core
 
   fetch_went : (r : Result ⊤ Trouble) (plan : Plan) (number : ℕ) (more : List ℕ) (client : Client) (core : Core) →
       Agrees exit least (length core.history) name (known_of name knowns) client →
@@ -277,7 +283,7 @@ module _ (exit : List Entry) (log : Log) (least from : ℕ) (knowns : List Known
     },
   )
 
-  next_went : (unfetched : List ℕ) (luck : Luck) (plan : Plan) (client : Client) (core : Core) →
+  next_went : (unfetched : List ℕ) (luck : ClientLuck) (plan : Plan) (client : Client) (core : Core) →
       Agrees exit least (length core.history) name (known_of name knowns) client →
       OnRequest exit least (known_of name knowns) client.front (length core.history) (planned plan) → IsPrefixOf core.history exit →
       StepWent (next_step luck log plan unfetched client core)
@@ -290,7 +296,7 @@ module _ (exit : List Entry) (log : Log) (least from : ℕ) (knowns : List Known
       let h : length core.history ≤ length given.core.history = longer core given.core (each_moves plan.grace luck.more luck.world core).later.grows in
       fetch_went given.answer plan number more client given.core
       (agrees-more exit least (length core.history) (length given.core.history) name (known_of name knowns) client h a)
-      (r.0, r.1, r.2, omega (arith, r.3, h))
+      (r.0, r.1, r.2, omega (arith, r.3, h), r.4)
 
   -- the configuration that a text is read under is the one of each later revision
   seen_then : (core : Core) → Ready exit least core → IsPrefixOf core.history exit → (revision : ℕ) → length core.history ≤ revision → config_then revision exit ≡ config_in core
@@ -306,14 +312,14 @@ module _ (exit : List Entry) (log : Log) (least from : ℕ) (knowns : List Known
       ap (take (length core.history)) p.1 ∙ take-append-le (length core.history) core.history p.0 (omega arith) ∙ take_all (length core.history) core.history (omega arith)
 
   -- a search that was read, or a refusal
-  plans_went : (asked : Result Search Unanswered) (text : List ℕ) (luck : Luck) (client : Client) (core : Core) → asked_of (config_in core) text ≡ as_asked asked →
+  plans_went : (asked : Result Search Unanswered) (text : List ℕ) (luck : ClientLuck) (client : Client) (core : Core) → asked_of (config_in core) text ≡ as_asked asked →
       Agrees exit least (length core.history) name (known_of name knowns) client → (known_of name knowns).text ≡ text → Ready exit least core → IsPrefixOf core.history exit → OfText asked →
       StepWent (plan_given asked client (asked_and_looked luck.world core))
   plans_went asked text luck client core word a t ready p fits =
       let given = asked_and_looked luck.world core in
       let h : length core.history ≤ length given.core.history = longer core given.core (asked_and_looked_moves luck.world core).later.grows in
       plan_went given.answer asked text client given.core (agrees-more exit least (length core.history) (length given.core.history) name (known_of name knowns) client h a) t
-      (ap (λ config. asked_of config text) (seen_then core ready p (length given.core.history) h) ∙ word) (let low = ready.low in omega (arith, low, h)) fits
+      (ap (λ config. asked_of config text) (seen_then core ready p (length given.core.history) h) ∙ word) (let low = ready.low in omega (arith, low, h)) (let some = ready.some in omega (arith, some, h)) fits
 
   -- a delete that was read: its task is the last entry, or there is none
   delete_went : (deletion : Deletion) (text : List ℕ) (r : Result ⊤ Unmade) (client : Client) (core after : Core) → Appends (task_act (ask_of deletion)) core r after →
@@ -358,7 +364,7 @@ module _ (exit : List Entry) (log : Log) (least from : ℕ) (knowns : List Known
       (let bound = a.bound in omega (arith, bound, up))
 
   -- a text that was opened, by what it asks
-  opened_went : (asked : Result Asked Unanswered) (text : List ℕ) (luck : Luck) (client : Client) (core : Core) → asked_of (config_in core) text ≡ asked → OfText asked →
+  opened_went : (asked : Result Asked Unanswered) (text : List ℕ) (luck : ClientLuck) (client : Client) (core : Core) → asked_of (config_in core) text ≡ asked → OfText asked →
       Agrees exit least (length core.history) name (known_of name knowns) client → (known_of name knowns).text ≡ text → from ≤ length core.history → Ready exit least core → IsPrefixOf core.history exit →
       IsPrefixOf (opened_by asked luck.world client core).core.history exit → StepWent (opened_by asked luck.world client core)
   opened_went (Ok (IsSearch search)) text luck client core word fits a t low ready p q = plans_went (Ok search) text luck client core word a t ready p tt
@@ -371,7 +377,7 @@ module _ (exit : List Entry) (log : Log) (least from : ℕ) (knowns : List Known
   opened_went (Err (reasons.Refused refusal)) text luck client core word fits a t low ready p q = plans_went (Err (reasons.Refused refusal)) text luck client core word a t ready p fits
   opened_went (Err (reasons.Memory e)) text luck client core word fits a t low ready p q = plans_went (Err (reasons.Memory e)) text luck client core word a t ready p tt
 
-  request_went : (request : Request) (luck : Luck) (client : Client) (core : Core) →
+  request_went : (request : Request) (luck : ClientLuck) (client : Client) (core : Core) →
       Agrees exit least (length core.history) name (known_of name knowns) client → OnRequest exit least (known_of name knowns) client.front (length core.history) request →
       from ≤ length core.history → Ready exit least core → IsPrefixOf core.history exit → IsPrefixOf (step_request request luck log client core).core.history exit →
       StepWent (step_request request luck log client core)
@@ -387,7 +393,7 @@ module _ (exit : List Entry) (log : Log) (least from : ℕ) (knowns : List Known
   short_core true client step = refl
   short_core false client step = refl
 
-  step_went : (luck : Luck) (client : Client) (core : Core) →
+  step_went : (luck : ClientLuck) (client : Client) (core : Core) →
       Agrees exit least (length core.history) name (known_of name knowns) client → from ≤ length core.history → Ready exit least core → IsPrefixOf core.history exit →
       IsPrefixOf (step_client luck log client core).core.history exit → StepWent (step_client luck log client core)
   step_went luck client core a low ready p q =
@@ -399,12 +405,12 @@ module _ (exit : List Entry) (log : Log) (least from : ℕ) (knowns : List Known
 
 -- What a line leaves: the log, a longer history, and clients that agree with what is known behind it; and what it says is answered, and a delete was done
 -- in it.
-record Goes (exit : List Entry) (least : ℕ) (knowns : List Known) (node : Node) (line : Line) (o : Outcome) (new : Node) : Type 0 where
-  log : new.log ≡ node.log
-  grows : Grows node.core new.core
-  agrees : AllAgree exit least (length new.core.history) (λ q. known_of q (after_outcome knowns line o)) (λ q. client_named q new.clients)
-  answers : AnswersOne exit node.log least knowns line o
-  deletes : Deletes exit (length node.core.history) (length new.core.history) knowns line o
+pub record Goes (exit : List Entry) (least : ℕ) (knowns : List Known) (node : Node) (line : Line) (o : Outcome) (new : Node) : Type 0 where
+  pub log : new.log ≡ node.log
+  pub grows : Grows node.core new.core
+  pub agrees : AllAgree exit least (length new.core.history) (λ q. known_of q (after_outcome knowns line o)) (λ q. client_named q new.clients)
+  pub answers : AnswersOne exit node.log least knowns line o
+  pub deletes : Deletes exit (length node.core.history) (length new.core.history) knowns line o
 
 -- no client's step says it
 abbrev IsApart : Outcome → Type 0
@@ -493,7 +499,7 @@ module _ (exit : List Entry) (least : ℕ) (knowns : List Known) (node : Node) (
       (λ q. known_of q knowns) (λ q. known_of q knowns) (λ q. client_named q node.clients) (λ q. client_named q (with_client client node.clients))
       (known_same name knowns) (kept_client client a.client_name) all a
 
-  client_goes : (down : Bool) (luck : node_turns.Luck) → Ready exit least node.core →
+  client_goes : (down : Bool) (luck : node_turns.LineLuck) → Ready exit least node.core →
       IsPrefixOf (client_turn_by down luck name node).node.core.history exit →
       TurnGoes exit least knowns node (StepClient name) (client_turn_by down luck name node)
   client_goes true luck l p =
@@ -594,7 +600,7 @@ module _ (exit : List Entry) (least : ℕ) (knowns : List Known) (node : Node) (
   indexer_said_goes None i new log g same = unsaid_goes exit least knowns node (StepIndexer i) new
   indexer_said_goes (Some o) i new log g same = other_goes (StepIndexer i) _ new log g same refl tt
 
-  indexer_goes : (down : Bool) (luck : node_turns.Luck) (i : ℕ) → TurnGoes exit least knowns node (StepIndexer i) (indexer_turn_by down luck i node)
+  indexer_goes : (down : Bool) (luck : node_turns.LineLuck) (i : ℕ) → TurnGoes exit least knowns node (StepIndexer i) (indexer_turn_by down luck i node)
   indexer_goes true luck i = other_goes (StepIndexer i) _ node refl (same_grows node.core node.core refl) refl refl tt
   indexer_goes false luck i =
       let step = step_indexer (indexing_luck luck) node.log (indexer_at node.indexers i) node.core in
@@ -610,13 +616,13 @@ module _ (exit : List Entry) (least : ℕ) (knowns : List Known) (node : Node) (
   deleter_said_goes aim None new log g same = unsaid_goes exit least knowns node StepDeleter new
   deleter_said_goes aim (Some o) new log g same = other_goes StepDeleter _ new log g same refl tt
 
-  merger_goes : (down : Bool) (luck : node_turns.Luck) → TurnGoes exit least knowns node StepMerger (worker_turn_by down Merging node.merger with_merger luck node)
+  merger_goes : (down : Bool) (luck : node_turns.LineLuck) → TurnGoes exit least knowns node StepMerger (worker_turn_by down Merging node.merger with_merger luck node)
   merger_goes true luck = other_goes StepMerger _ node refl (same_grows node.core node.core refl) refl refl tt
   merger_goes false luck =
       let step = step_worker Merging (working_luck luck) node.log node.merger node.core in
       worker_said_goes Merging step.outcome (worker_stepped Merging with_merger node step).node refl (worker_moves (working_luck luck) node.log node.core Merging node.merger).later.grows refl
 
-  deleter_goes : (down : Bool) (luck : node_turns.Luck) → TurnGoes exit least knowns node StepDeleter (worker_turn_by down Deleting node.deleter with_deleter luck node)
+  deleter_goes : (down : Bool) (luck : node_turns.LineLuck) → TurnGoes exit least knowns node StepDeleter (worker_turn_by down Deleting node.deleter with_deleter luck node)
   deleter_goes true luck = other_goes StepDeleter _ node refl (same_grows node.core node.core refl) refl refl tt
   deleter_goes false luck =
       let step = step_worker Deleting (working_luck luck) node.log node.deleter node.core in
@@ -627,19 +633,19 @@ module _ (exit : List Entry) (least : ℕ) (knowns : List Known) (node : Node) (
   collector_said_goes None core g = unsaid_goes exit least knowns node StepCollector (record node { core = core })
   collector_said_goes (Some o) core g = other_goes StepCollector _ (record node { core = core }) refl g refl refl tt
 
-  collector_goes : (down : Bool) (luck : node_turns.Luck) → TurnGoes exit least knowns node StepCollector (collector_turn_by down luck node)
+  collector_goes : (down : Bool) (luck : node_turns.LineLuck) → TurnGoes exit least knowns node StepCollector (collector_turn_by down luck node)
   collector_goes true luck = other_goes StepCollector _ node refl (same_grows node.core node.core refl) refl refl tt
   collector_goes false luck =
       let step = step_collector (collecting_luck luck) node.core in
       collector_said_goes step.outcome step.core (collector_moves (collecting_luck luck) node.core).later.grows
 
-  assign_goes : (place : Place) (i : ℕ) (names : List (List ℕ)) (indexer : Indexer) → TurnGoes exit least knowns node (Assign i names) (assign_at place i names indexer node)
+  assign_goes : (place : IndexerPlace) (i : ℕ) (names : List (List ℕ)) (indexer : Indexer) → TurnGoes exit least knowns node (Assign i names) (assign_at place i names indexer node)
   assign_goes idle i names indexer = other_goes (Assign i names) _ _ refl (same_grows node.core node.core refl) refl refl tt
   assign_goes (reading batch) i names indexer = other_goes (Assign i names) _ node refl (same_grows node.core node.core refl) refl refl tt
   assign_goes (staged held) i names indexer = other_goes (Assign i names) _ node refl (same_grows node.core node.core refl) refl refl tt
   assign_goes (uploaded held) i names indexer = other_goes (Assign i names) _ node refl (same_grows node.core node.core refl) refl refl tt
 
-  full_goes : (luck : node_turns.Luck) (line : Line) → Ready exit least node.core →
+  full_goes : (luck : node_turns.LineLuck) (line : Line) → Ready exit least node.core →
       IsPrefixOf (full_turn luck node line).node.core.history exit → TurnGoes exit least knowns node line (full_turn luck node line)
   full_goes luck (At m) l p =
       let new = (full_turn luck node (At m)).node in other_goes (At m) _ new refl (same_grows node.core new.core refl) refl refl tt
@@ -662,14 +668,14 @@ module _ (exit : List Entry) (least : ℕ) (knowns : List Known) (node : Node) (
   quiet_goes true line t g = unsaid_goes exit least knowns node line (quiet line t.node)
   quiet_goes false line t g = g refl
 
-  by_goes : (b : Bool) (luck : node_turns.Luck) (line : Line) → Ready exit least node.core →
+  by_goes : (b : Bool) (luck : node_turns.LineLuck) (line : Line) → Ready exit least node.core →
       IsPrefixOf (turn_by b luck node line).node.core.history exit → TurnGoes exit least knowns node line (turn_by b luck node line)
   by_goes true luck line l p = unsaid_goes exit least knowns node line (quiet line node)
   by_goes false luck line l p =
       quiet_goes luck.short line (full_turn luck node line)
       (λ e. full_goes luck line l (subst (λ b. IsPrefixOf (or_quiet b line (full_turn luck node line)).node.core.history exit) e p))
 
-  turn_goes : (luck : node_turns.Luck) (line : Line) → Ready exit least node.core →
+  turn_goes : (luck : node_turns.LineLuck) (line : Line) → Ready exit least node.core →
       IsPrefixOf (turn_with luck node line).node.core.history exit → TurnGoes exit least knowns node line (turn_with luck node line)
   turn_goes luck line l p = by_goes luck.early luck line l p
 
@@ -678,6 +684,13 @@ module _ (exit : List Entry) (least : ℕ) (knowns : List Known) (node : Node) (
 -- these lines are answered, and those of deletes behind so many entries
 abbrev AllAnswered : List Entry → Log → (least from : ℕ) → List Known → List Line → List Outcome → Type 0
 AllAnswered exit log least from knowns lines outcomes = AnswersFrom exit log least knowns lines outcomes × DeletesFrom exit from knowns lines outcomes
+
+-- a line of a journal that goes on to the one at exit
+pub line_goes : (exit : List Entry) (least : ℕ) (knowns : List Known) (node mid : Node) (line : Line) (o : Outcome) → Agreed exit least knowns node → Ready exit least node.core →
+    Turn node line (Some o) mid → IsPrefixOf mid.core.history exit → Goes exit least knowns node line o mid
+line_goes exit least knowns node mid line o all ready turn p =
+    subst (λ x. TurnGoes exit least knowns node line x) turn.is
+    (turn_goes exit least knowns node all turn.luck line ready (subst (λ x. IsPrefixOf x.node.core.history exit) (sym turn.is) p)) o refl
 
 -- one line, and what is known behind it
 one_more : (exit : List Entry) (least from : ℕ) (knowns : List Known) (node last : Node) (line : Line) (lines : List Line) (o : Outcome) (os : List Outcome) →
@@ -700,12 +713,6 @@ one_more exit least from knowns node last line lines o os all ready low p run mo
     mid : Node
     mid = run.0
 
-    t : Turned
-    t = record { said = Some o; node = mid }
-
-    is : turn_with run.1.luck node line ≡ t
-    is = run.1.is
-
     mid_before : IsPrefixOf mid.core.history exit
     mid_before = prefix_on mid.core.history last.core.history exit (turns_later mid last lines os run.2).grows p
 
@@ -713,16 +720,14 @@ one_more exit least from knowns node last line lines o os all ready low p run mo
     mid_short = let e : length exit ≡ length mid.core.history + length mid_before.0 = ap length mid_before.1 ∙ length-append mid.core.history mid_before.0 in omega (arith, e)
 
     goes : Goes exit least knowns node line o mid
-    goes = subst (λ x. TurnGoes exit least knowns node line x) is
-        (turn_goes exit least knowns node all run.1.luck line ready (subst (λ x. IsPrefixOf x.node.core.history exit) (sym is) mid_before)) o refl
+    goes = line_goes exit least knowns node mid line o all ready run.1 mid_before
 
     up : length node.core.history ≤ length mid.core.history
     up = longer node.core mid.core goes.grows
 
     rest : AllAnswered exit mid.log least (length mid.core.history) (after_outcome knowns line o) lines os
     rest =
-        more goes.agrees
-        (record { legal = ready.legal; low = let l = ready.low in omega (arith, l, up); some = let l = ready.some in omega (arith, l, up) })
+        more goes.agrees (ready_on exit least node.core mid.core ready up)
 
 searches_answered : (exit : List Entry) (least from : ℕ) (knowns : List Known) (node last : Node) (lines : List Line) (outcomes : List Outcome) →
     Agreed exit least knowns node → Ready exit least node.core → from ≤ length node.core.history → IsPrefixOf last.core.history exit →
@@ -735,7 +740,7 @@ searches_answered exit least from knowns node last (line ∷ lines) (o ∷ os) a
     (λ agreed there. searches_answered exit least (length run.0.core.history) (after_outcome knowns line o) run.0 last lines os agreed there (omega arith) p run.2)
 
 -- a node that no client has talked to
-none_known : (exit : List Entry) (least : ℕ) (node : Node) → node.clients ≡ [] → Agreed exit least [] node
+pub none_known : (exit : List Entry) (least : ℕ) (node : Node) → node.clients ≡ [] → Agreed exit least [] node
 none_known exit least node e name =
     subst (λ cs. Agrees exit least (length node.core.history) name (known_of name []) (client_named name cs)) (sym e)
     (record { known_name = refl; client_name = refl; front = refl; bound = omega arith; request = tt })

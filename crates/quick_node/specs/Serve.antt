@@ -13,7 +13,7 @@ use Rattle.index_world.specs.Configuration.{configuration}
 use Rattle.index_world.specs.Core.{Core, last_count}
 use Rattle.index_world.specs.Index.{IsIndexOf}
 use Rattle.index_world.specs.Seen.{visible_at}
-use Rattle.index_world.specs.Standing.{StandsFor}
+use Rattle.index_world.specs.Standing.{IsCoreOf}
 use Rattle.indexing_run.specs.Outcomes.{words}
 use Rattle.indexing_run.specs.Places.{Indexer}
 use Rattle.root_search.specs.Answer.{answer}
@@ -36,7 +36,9 @@ use Rattle.quick_node.specs.Expires.{ExpiresOver}
 use Rattle.quick_node.specs.Faults.{Interval, AreBetween, store_told, log_told}
 use Rattle.quick_node.specs.Fronts.{Known, after_outcome, config_then, known_of}
 use Rattle.quick_node.specs.Once.{HoldsOnce, CoversAt, AreLeft, Reaches}
+use Rattle.quick_node.specs.Refusals.{RefusesFrom}
 use Rattle.quick_node.specs.Replaces.{ReplacesFrom, RestsFrom}
+use Rattle.quick_node.specs.Replaces as merges
 use Rattle.quick_node.specs.Reading.{Ending, all_read, bad_line, clients_over, line_over, input_over, stopped, Reads, FailsBehind, max_clients, max_line, max_input}
 
 abbrev pub IsPrefixOf : {X : Type 0} → List X → List X → Type 0
@@ -160,7 +162,7 @@ HasEnd before after lines out_of_memory = Reads (length before.log_faults) befor
 
 -- a node as the call begins, before it reads the journal
 pub record IsFresh (before : Before) (history : List Entry) (node : Node) : Type 0 where
-  pub stands : StandsFor before.kept node.core
+  pub stands : IsCoreOf before.kept node.core
   pub is : node ≡ opened_node (record {
     log = before.log;
     log_faults = before.log_faults;
@@ -265,7 +267,7 @@ log_faults_of indexer = indexer.log_faults
 pub record IsShown (after : After) (node : Node) : Type 0 where
   pub store_count : node.core.store_faults ≡ after.store_faults
   pub log_count : map log_faults_of node.indexers ≡ after.log_faults
-  pub stands : StandsFor after.kept node.core
+  pub stands : IsCoreOf after.kept node.core
 
 -- ---- the searches, without a node
 
@@ -339,6 +341,8 @@ pub record Drives (history : List Entry) (before : Before) (after : After) (stat
   -- each reply that a delete was done names the task that its line added to the journal, of exactly what its client asked to delete; and no refusal is
   -- over a revision before its client's front, so a client's later searches are over one that has its tasks
   pub deletes : DeletesFrom exit (length history) [] lines outcomes
+  -- each refusal is one of what its client's text asks: a search is never refused for want of room, and a delete only where there is none
+  pub refuses : RefusesFrom exit (length history) [] lines outcomes
   -- each fault of the store that a line tells has its count before and behind, of which the second rose: these lie one behind
   -- another between the counts at entry and at exit
   pub faults : before.store_faults ≤ last_count → AreBetween before.store_faults (end_told end ++ flat_map store_told outcomes) after.store_faults
@@ -349,13 +353,13 @@ pub record Drives (history : List Entry) (before : Before) (after : After) (stat
       AreBetween (slice_index before.log_faults i) (flat_map (log_told i) outcomes) (slice_index after.log_faults i)
   -- each indexer says that it caught up exactly where the checkpoints that it saw are the ends of its partitions
   pub catch_up : (i : ℕ) → i < length before.log_faults → CatchesUp exit before.log i (length history) unseen lines outcomes
-  -- a search, or a step of a merger, is refused as Expired only where the deletion grace had passed behind its plan
+  -- a search, or a step of a merger or a delete worker, is refused as Expired only where the deletion grace had passed behind its plan
   pub expires : (config : IndexConfig) → configuration history ≡ Some config → AllByRecursion (ExpiresOver config.deletion_grace) outcomes
   -- what the collector says is what it did, each line behind the journal of those before it
   pub collects : CollectsFrom exit (length history) outcomes
   -- what a merger says is what it did: it replaces exactly the rows that the policy chose at its plan, and a merge is lost only where the journal
   -- doesn't allow it
-  pub replaces : ReplacesFrom exit 0 (length history) [] lines outcomes
+  pub replaces : ReplacesFrom exit 0 (length history) merges.idle lines outcomes
   -- a merger has nothing to do only where the policy chooses no rows
   pub rests : RestsFrom exit 0 (length history) lines outcomes
   -- what a delete worker says is what it did: it applies all tasks to the first row that is behind them, and that row is lost only where the journal

@@ -5,8 +5,9 @@ pub mod Examples
 pub mod Places
 pub mod LeafAsks
 pub mod Intervals
+pub mod Shares
 pub mod Leaves
-pub mod SplitParts
+pub mod FetchedSplits
 pub mod PartAnswers
 pub mod ReadSearches
 pub mod Deletes

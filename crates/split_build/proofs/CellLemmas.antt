@@ -10,8 +10,7 @@ use Rattle.doc_value.specs.declared.schema.Kind.TheVariants as kinds
 use Rattle.doc_value.specs.declared.doc.Value.{Value}
 use Rattle.doc_value.specs.declared.doc.Value.TheVariants as values
 use Rattle.doc_value.specs.declared.doc.DocField.{DocField}
-use Rattle.doc_value.specs.Documents.{IsOfKind}
-use Rattle.query_ast.specs.Meaning.{values_in}
+use Rattle.doc_value.specs.Documents.{IsOfKind, values_in}
 use Rattle.fast_fields.specs.declared.entries.Entry.{Entry}
 use Rattle.fast_fields.specs.declared.rows.ColumnRow.{ColumnRow}
 use Rattle.fast_fields.specs.Columns.{AreEntries, AreGrown, AreTexts, Cell, DocumentsRise, Fits, IsNumber, IsSpelled, SomeText, cells, cells_of, has_texts}
@@ -316,14 +315,5 @@ numbered_text before after more v t n is utf8 grown same at small = record {
   after_is = grown;
   each = all_to (λ (m : List ℕ). m ≡ t) (λ (m : List ℕ). (v ≡ values.Text m) × IsUtf8 m) more (λ m e. (is ∙ ap (λ (x : List ℕ). values.Text x) (sym e), subst (λ (x : List ℕ). IsUtf8 x) (sym e) utf8)) same;
   number = subst (λ (x : Value). IsNumber after x n) (sym is) at;
-  small = small;
-}
-
-pub numbered_plain : (texts : List (List ℕ)) (v w : Value) (n : ℕ) → v ≡ w → IsNumber texts w n → n < 2 ^ 64 → IsNumbered texts texts v n
-numbered_plain texts v w n is number small = record {
-  more = [];
-  after_is = sym (append-nil texts);
-  each = tt;
-  number = subst (λ (x : Value). IsNumber texts x n) (sym is) number;
   small = small;
 }

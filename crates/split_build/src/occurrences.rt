@@ -5,10 +5,9 @@ ghost use Rattle.std.specs.List.{AllByRecursion};
 ghost use Rattle.std.specs.Str.{IsAscii};
 ghost use Rattle.doc_value.specs.declared.schema.Field.{Field};
 ghost use Rattle.doc_value.specs.declared.schema.Schema.{Schema};
-ghost use Rattle.doc_value.specs.Documents.{IsSchema};
+ghost use Rattle.doc_value.specs.Documents.{IsSchema, values_in};
 ghost use Rattle.doc_value.specs.Terms.{term_bytes};
 ghost use Rattle.query_ast.specs.FieldTokens.{field_tokens};
-ghost use Rattle.query_ast.specs.Meaning.{values_in};
 ghost use Rattle.split_bundle.specs.Keys.{field_key, presence_key, value_place, of_tokens, of_value, of_values, of_field, keys_of};
 ghost use Rattle.split_bundle.specs.Lists.{keeps_places};
 ghost use Rattle.split_build.specs.Said.{in_document};
@@ -20,13 +19,10 @@ use crate::terms::TermLog;
 use doc_value::{DocField, Field, Schema, Tokenizer, Value, turned};
 use query_ast::tokens_of;
 use std::alloc::{AllocError, Global};
-use text_tokens::Token;
+use text_tokens::{MAX_TOKEN, Token};
 
 // The number of a field takes so many bytes of a key.
 const PREFIX: usize = 2;
-
-// A longer word has no token.
-const MAX_TOKEN: usize = 255;
 
 // A value's place among those of its field, and the position of a token in it.
 fn place_of(value: usize, position: usize) -> u64

@@ -8,7 +8,7 @@ ghost use Rattle.split_bundle.specs.declared.placed.Placed.{Placed};
 ghost use Rattle.split_bundle.specs.Documents.{total_weight};
 ghost use Rattle.split_merge.specs.Keeping.{kept, joined, RiseFrom, AreViewsOf};
 ghost use Rattle.split_merge.specs.Kept.{HasKept};
-ghost use Rattle.split_merge.specs.Merging.{Blames, HasCause, HoldsDocuments, IsMemory, Merges, MergesAs, MergesRead, refusal_of};
+ghost use Rattle.split_merge.specs.Merging.{Blames, IsMergeFault, HoldsDocuments, IsMemory, Merges, MergesAs, MergesRead, refusal_of};
 ghost use Rattle.split_merge.specs.Reading.{read_kept};
 
 use crate::MergeError;
@@ -19,13 +19,11 @@ use crate::terms::join_terms;
 use doc_value::Schema;
 use split_build::{BuildError, BuiltSplit};
 use split_bundle::SplitView;
+use split_states::MAX_WEIGHT;
 use std::alloc::Global;
 
 // A split has at most so many documents.
 const MAX_DOCUMENTS: u32 = 16_777_216;
-
-// The documents of a split weigh at most so much together.
-const MAX_WEIGHT: u64 = 268_435_456;
 
 // What a refusal of the builder is to the merge.
 fn refusal_of(refusal: BuildError) -> MergeError
@@ -89,7 +87,7 @@ fn join_documents(
     requires kept { (ds : List Placed) × HasKept documents schema.now ds }
     ensures only { (lists : List (List Placed)) → HasKept documents.entry schema.now (kept dropped.now (joined lists)) → AreViewsOf schema.now views.now lists → Merges schema.now (kept dropped.now (joined lists)) result }
     ensures read { (ds : List Placed) → HasKept documents.entry schema.now ds → MergesRead schema.now ds result }
-    ensures cause { IfErr result (HasCause schema.now views.now) }
+    ensures cause { IfErr result (IsMergeFault schema.now views.now) }
 {
     let (count, weight) = documents.count_and_weight();
     match within_limits(count, weight) {
@@ -111,7 +109,7 @@ pub fn merge(
     // Of views of splits: what is built of the documents that are kept.
     ensures only { (lists : List (List Placed)) → AreViewsOf schema.now views.now lists → Merges schema.now (kept dropped.now (joined lists)) result }
     // Of any views: one that is named is of no split of documents.
-    ensures cause { IfErr result (HasCause schema.now views.now) }
+    ensures cause { IfErr result (IsMergeFault schema.now views.now) }
     // Of any views: what is read of them, document by document. Where each document that is kept reads, the file is of exactly
     // these and the limits count exactly these; where one does not, the first of those is the answer, with its view and its fault.
     ensures exact { MergesAs schema.now (read_kept schema.now dropped.now views.now) result }

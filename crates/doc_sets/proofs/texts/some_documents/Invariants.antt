@@ -1,13 +1,15 @@
 use Rattle.std.proofs.Common.{◌≡◌, ◌||◌, Bool, true, Some, slice_get, List, drop}
 use Rattle.doc_value.specs.declared.doc.DocField.{DocField}
 use Rattle.doc_value.specs.declared.schema.Schema.{Schema}
-use Rattle.query_ast.specs.Meaning.{some_item_holds, values_in}
+use Rattle.query_ast.specs.Meaning.{some_item_holds}
+use Rattle.doc_value.specs.Documents.{values_in}
 use Rattle.split_bundle.specs.declared.placed.Placed.{Placed}
 use Rattle.split_bundle.specs.Files.{Parts}
 use Rattle.doc_sets.specs.Needed.{IsSearched}
 use Rattle.doc_sets.specs.Sets.{IsSetOf}
 use Rattle.doc_sets.specs.Reads.{AreRead, SomeMeets}
-use Rattle.doc_sets.specs.Texts.{CanPlaceEach, item_lookups}
+use Rattle.doc_sets.specs.Texts.{item_lookups}
+use Rattle.query_ast.specs.Askable.{CanPlaceEach}
 use Rattle.doc_sets.specs.declared.leaf_error.LeafError.{LeafError}
 use Rattle.doc_sets.proofs.texts.some_documents.Given as goal
 
