@@ -1,8 +1,9 @@
 -- Which aggregations are refused.
-use Rattle.std.specs.Prelude.{ℕ, ◌<◌, Bool, true, false, ◌&&◌, List, [], ◌∷◌, Option, Some, None, slice_get, if◌then◌else◌, int_lt}
+use Rattle.std.specs.Prelude.{◌≡◌, ℕ, ◌<◌, Bool, true, false, ◌&&◌, List, [], ◌∷◌, length, Option, Some, None, slice_get, if◌then◌else◌, int_lt}
 use Rattle.std.specs.List.{All, list_all}
 use Rattle.std.specs.Option.{option_or, option_and_then, option_map_or}
 use Rattle.doc_value.specs.declared.schema.Field.{Field}
+use Rattle.doc_value.specs.declared.schema.Schema.{Schema}
 use Rattle.agg_model.specs.Checking as counted
 use Rattle.agg_model.specs.declared.agg_error.AggError.{AggError}
 use Rattle.agg_model.specs.declared.agg_error.AggError.TheVariants as refusals
@@ -73,3 +74,8 @@ HasStep (Ranges field ranges) = Unit {0}
 -- that of each histogram of a request is
 abbrev pub HaveSteps : List NestedAgg → Type 0
 HaveSteps request = All (λ asked. HasStep asked.agg × All (λ named. HasStep named.agg) asked.nested) request
+
+-- each aggregation is over one of the schema's fields, a nested one too, and none is refused
+pub record CanCount (s : Schema) (aggs : List NestedAgg) : Type 0 where
+  pub over : HaveFields (length s.fields) aggs
+  pub none : first_refusal s.fields aggs ≡ None

@@ -22,7 +22,8 @@ use Rattle.doc_sets.specs.declared.leaf_error.LeafError.{LeafError}
 use Rattle.doc_sets.specs.Asking.{AsksLookups, LacksLookups}
 use Rattle.doc_sets.specs.Needed.{token_keys}
 use Rattle.doc_sets.specs.Sets.{IsSetOf}
-use Rattle.doc_sets.specs.Texts.{CanPlace, CanPlaceEach, item_lookups, lookups_for, text_keys, text_lookups, value_keys}
+use Rattle.doc_sets.specs.Texts.{item_lookups, lookups_for, text_keys, text_lookups, value_keys}
+use Rattle.query_ast.specs.Askable.{CanPlace, CanPlaceEach}
 use Rattle.doc_sets.proofs.Causes.{cause_wider}
 use Rattle.doc_sets.proofs.Looked.{lookups_end, lookups_front}
 

@@ -1,5 +1,5 @@
 -- What is looked up for a text.
-use Rattle.std.specs.Prelude.{◌≡◌, ℕ, ◌<◌, true, List, [], ◌∷◌, ◌++◌, length, map, Option, Some, None, if◌then◌else◌}
+use Rattle.std.specs.Prelude.{ℕ, List, [], ◌∷◌, ◌++◌, map, Option, Some, None, if◌then◌else◌}
 use Rattle.doc_value.specs.declared.schema.Field.{Field}
 use Rattle.doc_value.specs.declared.doc.Value.{Value}
 use Rattle.doc_value.specs.Terms.{term_bytes}
@@ -43,12 +43,3 @@ only (key ∷ more ∷ keys) = None
 
 abbrev pub one_token : Field → ℕ → List ℕ → Option (List ℕ)
 one_token f number text = if is_text f.kind then only (token_keys number (field_tokens f text)) else None
-
--- a quoted text of several tokens is looked for by their places, which a field of texts has to keep
-abbrev pub CanPlace : Field → List ℕ → Type 0
-CanPlace f text = is_text f.kind ≡ true → 1 < length (field_tokens f text) → f.positions ≡ true
-
--- the same of each quoted one of some members
-abbrev pub CanPlaceEach : Field → List Item → Type 0
-CanPlaceEach f [] = Unit {0}
-CanPlaceEach f (item ∷ items) = (item.quoted ≡ true → CanPlace f item.text) × CanPlaceEach f items

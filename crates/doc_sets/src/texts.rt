@@ -11,7 +11,8 @@ ghost use Rattle.doc_sets.specs.Asking.{LacksLookups};
 ghost use Rattle.doc_sets.specs.Needed.{IsSearched, token_keys};
 ghost use Rattle.doc_sets.specs.Reads.{ReadsAll};
 ghost use Rattle.doc_sets.specs.Sets.{IsSetOf};
-ghost use Rattle.doc_sets.specs.Texts.{CanPlace, CanPlaceEach, item_lookups, lookups_for, text_lookups, value_keys};
+ghost use Rattle.doc_sets.specs.Texts.{item_lookups, lookups_for, text_lookups, value_keys};
+ghost use Rattle.query_ast.specs.Askable.{CanPlace, CanPlaceEach};
 
 use crate::bits::DocBits;
 use crate::leaf_error::LeafError;

@@ -10,7 +10,7 @@ use Rattle.agg_model.specs.declared.agg_error.AggError.{AggError}
 use Rattle.agg_model.specs.declared.agg_error.AggError.TheVariants as refusals
 use Rattle.agg_model.specs.declared.request.Agg.{Agg}
 use Rattle.agg_model.specs.declared.request.Agg.TheVariants.{Terms, Histogram}
-use Rattle.agg_nested.specs.Checking.{field_of, first_nested, first_refusal, is_sound, refusal_of, refusal_over, refusal_within, takes}
+use Rattle.agg_nested.specs.Checking.{field_of, first_nested, first_refusal, is_sound, refusal_of, refusal_over, refusal_within, takes, CanCount}
 use Rattle.agg_nested.specs.declared.request.FlatAgg.{FlatAgg}
 use Rattle.agg_nested.specs.declared.request.FlatAgg.TheVariants.{Counted, Metric, Ranges}
 use Rattle.agg_nested.specs.declared.request.MetricKind.TheVariants as kinds
@@ -18,7 +18,6 @@ use Rattle.agg_nested.specs.declared.request.NamedFlat.{NamedFlat}
 use Rattle.agg_nested.specs.declared.request.NestedAgg.{NestedAgg}
 use Rattle.doc_tallies.specs.AggColumns.{AreOverFast, fields_asked, fields_of}
 use Rattle.doc_tallies.specs.Cells.{IsFast}
-use Rattle.leaf_search.specs.Askable.{AreCounted}
 use Rattle.leaf_search.specs.Needs.{fields_nested}
 
 -- ---- a field
@@ -96,7 +95,7 @@ module _ (s : Schema) where
       let has = All-head HasFields x xs over in
       by_both (IsFast s) (fields_of x) (fields_asked xs) (flat_fast x.name x.agg has.0 own.0, nested_fast x.nested has.1 own.1) (each_fast xs (All-tail HasFields x xs over) both.1)
 
-  pub over_fast : (aggs : List NestedAgg) → AreCounted s aggs → AreOverFast s aggs
+  pub over_fast : (aggs : List NestedAgg) → CanCount s aggs → AreOverFast s aggs
   over_fast aggs counted = All-from_recursion (IsFast s) (fields_asked aggs) (each_fast aggs counted.over counted.none)
 
   fast_among : (aggs : List NestedAgg) (i : ℕ) (x : NestedAgg) → i < length aggs → x ≡ get_or aggs i x → AllByRecursion (IsFast s) (fields_asked aggs) → AllByRecursion (IsFast s) (fields_of x)

@@ -34,7 +34,8 @@ use Rattle.doc_sets.specs.Faults.{HasCause, IsMemory}
 use Rattle.doc_sets.specs.Needed.{IsBlockFor, token_keys}
 use Rattle.doc_sets.proofs.Causes.{cause_wider}
 use Rattle.doc_sets.proofs.WithinFile.{lookups_within, only_memory}
-use Rattle.doc_sets.specs.Texts.{CanPlace, one_token, only}
+use Rattle.doc_sets.specs.Texts.{one_token, only}
+use Rattle.query_ast.specs.Askable.{CanPlace, CanAsk}
 use Rattle.doc_sets.proofs.PlaceKeys.{token_is_key}
 use Rattle.doc_sets.proofs.Steps.{and_true, texts_in}
 use Rattle.doc_sets.proofs.TermWalks.{all_map}
@@ -42,7 +43,6 @@ use Rattle.doc_tallies.specs.Orders.{firsts}
 use Rattle.doc_tallies.specs.Picked.{docs_of}
 use Rattle.leaf_search.specs.Answers.{AsksLeaf, AsksWith, found, passes, IsAnswerOf, IsAsked}
 use Rattle.leaf_search.specs.Asks.{lookups_of}
-use Rattle.leaf_search.specs.Askable.{CanAsk}
 use Rattle.leaf_search.specs.Counts.{counted_key, one_key, only_counts, request_lookups}
 use Rattle.leaf_search.specs.declared.request.LeafAnswer.{LeafAnswer}
 use Rattle.leaf_search.specs.declared.request.LeafRequest.{LeafRequest}

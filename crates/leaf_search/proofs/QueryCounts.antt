@@ -26,7 +26,7 @@ use Rattle.doc_sets.specs.Needed.{IsBlockFor, token_keys}
 use Rattle.doc_sets.specs.Sets.{IsSetOf}
 use Rattle.doc_sets.specs.Texts.{lookups_for, one_token, only, text_lookups, value_keys}
 use Rattle.doc_sets.proofs.TermWalks.{all_map}
-use Rattle.leaf_search.specs.Askable.{CanAsk}
+use Rattle.query_ast.specs.Askable.{CanAsk}
 use Rattle.leaf_search.specs.Asks.{lookups_of}
 use Rattle.leaf_search.specs.Counts.{one_key}
 use Rattle.leaf_search.proofs.KeyCounts.{key_meaning, many_posted}

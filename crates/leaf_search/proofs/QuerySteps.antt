@@ -9,7 +9,7 @@ use Rattle.query_ast.specs.declared.query.Query.{Query, Row_of-Query, end_of-Que
 use Rattle.query_ast.specs.Sought.{Sought, more, view, view_row, view_all}
 use Rattle.query_ast.specs.Meaning.{meaning, all_hold, some_hold, asks}
 use Rattle.query_ast.specs.Queries.{HasField}
-use Rattle.leaf_search.specs.Askable.{CanAsk, CanAskEach}
+use Rattle.query_ast.specs.Askable.{CanAsk, CanAskEach}
 use Rattle.split_bundle.specs.declared.placed.Placed.{Placed}
 use Rattle.split_bundle.specs.declared.part_view.PartView.{PartView}
 use Rattle.split_bundle.specs.Files.{Parts}

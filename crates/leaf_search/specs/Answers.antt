@@ -6,7 +6,8 @@ use Rattle.doc_value.specs.declared.doc.DocField.{DocField}
 use Rattle.doc_value.specs.declared.facts.TimeRange.{TimeRange}
 use Rattle.query_ast.specs.Meaning.{meaning, within_times, is_unlimited}
 use Rattle.query_ast.specs.Sought.{view}
-use Rattle.leaf_search.specs.Askable.{CanAsk, AreCounted}
+use Rattle.agg_nested.specs.Checking.{CanCount}
+use Rattle.query_ast.specs.Askable.{CanAsk}
 use Rattle.agg_nested.specs.Buckets.{NestedStands}
 use Rattle.split_bundle.specs.declared.placed.Placed.{Placed}
 use Rattle.split_bundle.specs.declared.part_view.PartView.{PartView}
@@ -41,7 +42,7 @@ pub record IsAnswerOf (s : Schema) (r : LeafRequest) (documents : List Placed) (
 pub record IsAsked (s : Schema) (r : LeafRequest) : Type 0 where
   pub query : CanAsk s (view r.query)
   pub order : IsSortable s r.order
-  pub aggs : AreCounted s r.aggs
+  pub aggs : CanCount s r.aggs
 
 -- the column of the timestamp field is read only where the times have an edge
 pub record AsksTimes (v : PartView) (p : Parts) (s : Schema) (times : TimeRange) (at len : ℕ) : Type 0 where

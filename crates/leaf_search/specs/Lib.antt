@@ -1,4 +1,3 @@
-pub mod Askable
 pub mod Asks
 pub mod Counts
 pub mod Numbers

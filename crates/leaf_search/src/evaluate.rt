@@ -3,7 +3,7 @@
 ghost use Rattle.std.specs.Prelude.{◌≡◌, ◌≤◌, length, List, IfOk, MatchResult};
 ghost use Rattle.query_ast.specs.Meaning.{meaning, all_hold, some_hold};
 ghost use Rattle.query_ast.specs.Sought.{view, view_all};
-ghost use Rattle.leaf_search.specs.Askable.{CanAsk, CanAskEach};
+ghost use Rattle.query_ast.specs.Askable.{CanAsk, CanAskEach};
 ghost use Rattle.split_bundle.specs.declared.placed.Placed.{Placed};
 ghost use Rattle.split_bundle.specs.Files.{Parts};
 ghost use Rattle.doc_sets.specs.Asking.{LacksLookups};

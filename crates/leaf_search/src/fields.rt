@@ -3,7 +3,7 @@
 ghost use Rattle.std.specs.Prelude.{◌≡◌, ◌<◌, ◌≤◌, length, List, Some, None, slice_get, IfOk, IfSome, MatchOption, MatchResult};
 ghost use Rattle.query_ast.specs.Meaning.{meaning};
 ghost use Rattle.query_ast.specs.Sought as sought;
-ghost use Rattle.leaf_search.specs.Askable.{CanAsk};
+ghost use Rattle.query_ast.specs.Askable.{CanAsk};
 ghost use Rattle.split_bundle.specs.declared.placed.Placed.{Placed};
 ghost use Rattle.split_bundle.specs.Files.{Parts};
 ghost use Rattle.doc_sets.specs.Asking.{LacksLookups};

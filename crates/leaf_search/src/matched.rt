@@ -9,7 +9,7 @@ ghost use Rattle.split_bundle.specs.declared.placed.Placed.{Placed};
 ghost use Rattle.split_bundle.specs.Files.{Parts, file_bytes};
 ghost use Rattle.split_bundle.specs.Lending.{IsPartOf};
 ghost use Rattle.split_bundle.specs.Wholes.{HaveAll};
-ghost use Rattle.leaf_search.specs.Askable.{CanAsk};
+ghost use Rattle.query_ast.specs.Askable.{CanAsk};
 ghost use Rattle.leaf_search.specs.Numbers.{numbers_of};
 
 use crate::evaluate::matching;

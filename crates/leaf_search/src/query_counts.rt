@@ -8,7 +8,7 @@ ghost use Rattle.split_bundle.specs.Files.{Parts};
 ghost use Rattle.doc_sets.specs.Asking.{LacksLookups};
 ghost use Rattle.doc_sets.specs.Needed.{IsSearched};
 ghost use Rattle.doc_sets.specs.Reads.{ReadsAll};
-ghost use Rattle.leaf_search.specs.Askable.{CanAsk};
+ghost use Rattle.query_ast.specs.Askable.{CanAsk};
 ghost use Rattle.leaf_search.specs.Asks.{lookups_of};
 ghost use Rattle.leaf_search.specs.Counts.{count_lookups, plain_lookups};
 

@@ -1,3 +1,4 @@
+pub mod Askable
 pub mod FieldTokens
 pub mod Meaning
 pub mod Pruning

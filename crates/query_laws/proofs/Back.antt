@@ -17,7 +17,8 @@ use Rattle.query_reader.specs.Tree.{Tree, Trees, no_trees, behind, Group, Not, A
 use Rattle.query_reader.specs.Machine.{run, reads, start, state, Frame, Want, After, Behind, First, Fielded, with_operand, negated, fresh, whole, leaf}
 use Rattle.query_reader.specs.Grammar.{span}
 use Rattle.query_reader.specs.Texts.{text_at}
-use Rattle.query_reader.specs.Resolve.{◌>>=◌, resolve, resolve_each, resolved, resolve_clause, named_clause, all_indexed, first_bad, first_unplaced, query_of, valued_clause, placed_clause, over_fields, asked_after, asked_of, and_then, bad_value, unplaced, unplaced_members, bad_members, is_unplaced, place_unless, first_of, item_of, number_of, has_order, first_byte}
+use Rattle.query_reader.specs.Resolve.{◌>>=◌, resolve, resolve_each, resolved, resolve_clause, named_clause, all_indexed, first_bad, first_unplaced, query_of, valued_clause, placed_clause, over_fields, asked_after, asked_of, and_then, bad_value, unplaced, unplaced_members, bad_members, is_unplaced, place_unless, first_of, item_of, number_of, first_byte}
+use Rattle.query_ast.specs.Queries.{has_order}
 use Rattle.query_reader.specs.Printed.{hides_in_quote, hiding, word_text, quote_text, Piece, Written, Spells, edge_pieces, range_pieces, opening, closing, items_text, items_rest, set_text, path_of, field_text, asked, blank_and, blank_or, bracket_depth, inner, printed, printed_all, nesting, nesting_all}
 use Rattle.query_reader.specs.declared.fault.Fault.{Fault}
 use Rattle.query_reader.specs.declared.fault.Fault.TheVariants as faults

@@ -11,7 +11,7 @@ use Rattle.doc_value.specs.declared.doc.Value.TheVariants as values
 use Rattle.dynamic_paths.specs.LeafTexts.{leaf_text}
 use Rattle.query_ast.specs.Meaning.{is_text}
 use Rattle.query_ast.specs.Queries as queries
-use Rattle.query_ast.specs.Queries.{IsInTime, EachSpells, IsQueryOf, AreQueriesOf, AreTwo}
+use Rattle.query_ast.specs.Queries.{IsInTime, EachSpells, IsQueryOf, AreQueriesOf, AreTwo, has_order}
 use Rattle.query_ast.specs.Spelled.{spelled, signed_of, unsigned_of, truth_of, datetime_of}
 use Rattle.query_ast.specs.Sought.{Sought, Soughts, no_more, more}
 use Rattle.query_ast.specs.declared.query.Edge.{Edge}
@@ -23,7 +23,7 @@ use Rattle.query_laws.proofs.Spelling.{datetime_is}
 use Rattle.query_reader.specs.Asking.{Asking}
 use Rattle.query_reader.specs.Asking as asks
 use Rattle.query_reader.specs.Grammar.{IsQuery}
-use Rattle.query_reader.specs.Resolve.{resolve, asked_at, asked_of, leaf_item, leaf_clause, and_then, bad_at, bad_value, bad_bound, bad_range, bad_members, range_of, item_of, has_order, member_byte, place_unless}
+use Rattle.query_reader.specs.Resolve.{resolve, asked_at, asked_of, leaf_item, leaf_clause, and_then, bad_at, bad_value, bad_bound, bad_range, bad_members, range_of, item_of, member_byte, place_unless}
 use Rattle.query_reader.specs.Texts.{text_at}
 use Rattle.query_reader.specs.Tree.{Tree}
 use Rattle.query_reader.specs.declared.refusal.QueryError.{QueryError}
@@ -69,16 +69,8 @@ edge_fits open_edge = tt
 edge_fits {kind} (included_edge text {v} e) = spelled_fits kind text v e
 edge_fits {kind} (excluded_edge text {v} e) = spelled_fits kind text v e
 
-ordered : (kind : Sort) → has_order kind ≡ true → queries.has_order kind ≡ true
-ordered kinds.Text e = e
-ordered kinds.TextList e = e
-ordered kinds.I64 e = e
-ordered kinds.U64 e = e
-ordered kinds.Bool e = e
-ordered kinds.Datetime e = e
-
 module _ (s : Schema) (text : List ℕ) (n : ℕ) (f : Field) (here : slice_get s.fields n ≡ Some f) where
-  range_fits : (r : Ranged) → queries.has_order f.kind ≡ true → bad_range text f.kind r ≡ None → IsQueryOf s (range_of text f.kind n r)
+  range_fits : (r : Ranged) → has_order f.kind ≡ true → bad_range text f.kind r ≡ None → IsQueryOf s (range_of text f.kind n r)
   range_fits (Between lc low high hc) o e =
       let p = first_none (bad_bound text f.kind low) (bad_bound text f.kind high) e in
       rw here (o, edge_fits (edge_readable text f.kind lc low p.0), edge_fits (edge_readable text f.kind hc high p.1))
@@ -99,7 +91,7 @@ module _ (s : Schema) (text : List ℕ) (n : ℕ) (f : Field) (here : slice_get 
   asked_fits (asks.Prefix p) b = rw here (unless_none (is_text f.kind) p.from b)
   asked_fits (asks.Quoted p) b = rw here (unless_none (is_some (spelled f.kind (text_at text p))) _ b)
   asked_fits (asks.Within m r) b =
-      let p = ordered_true (has_order f.kind) m (bad_range text f.kind r) b in range_fits r (ordered f.kind p.0) p.1
+      let p = ordered_true (has_order f.kind) m (bad_range text f.kind r) b in range_fits r p.0 p.1
   asked_fits (asks.OneOf m ms) b = rw here (items_fit ms b)
 
 -- what is asked of a number that no field has is nothing

@@ -28,7 +28,8 @@ use Rattle.query_ast.specs.Spelled.{spelled, signed_of, unsigned_of, datetime_of
 use Rattle.query_reader.specs.Kinds.{kind_of}
 use Rattle.query_reader.specs.Texts.{unescaped, text_at, run_at}
 use Rattle.query_reader.specs.Grammar.{span}
-use Rattle.query_reader.specs.Resolve.{◌>>=◌, bad_bound, is_unplaced, edge_of, edge_with, item_of, has_order}
+use Rattle.query_reader.specs.Resolve.{◌>>=◌, bad_bound, is_unplaced, edge_of, edge_with, item_of}
+use Rattle.query_ast.specs.Queries.{has_order}
 use Rattle.query_reader.specs.Printed.{hides_in_quote, hiding, word_text, quote_text, Written, Second, Spells, IsSecondText, plain_second, dated_second, other_second, IsPlainSecond, value_pieces, edge_pieces, item_text}
 use Rattle.query_reader.proofs.Pieces.{spells_written}
 use Rattle.query_laws.proofs.Words.{unescaped_word, unescaped_quote}

@@ -4,7 +4,6 @@ use Rattle.std.specs.Option.{option_map_or}
 use Rattle.std.specs.Str.{bytes_eq}
 use Rattle.doc_value.specs.declared.schema.Field.{Field}
 use Rattle.doc_value.specs.declared.schema.Kind.{Kind}
-use Rattle.doc_value.specs.declared.schema.Kind.TheVariants as kinds
 use Rattle.doc_value.specs.declared.schema.Schema.{Schema}
 use Rattle.doc_value.specs.declared.doc.Value.{Value}
 use Rattle.dynamic_paths.specs.LeafTexts.{leaf_text, fits}
@@ -13,6 +12,7 @@ use Rattle.query_ast.specs.declared.query.Edge.{Edge}
 use Rattle.query_ast.specs.declared.query.Edge.TheVariants as edges
 use Rattle.query_ast.specs.FieldTokens.{field_tokens}
 use Rattle.query_ast.specs.Meaning.{is_text}
+use Rattle.query_ast.specs.Queries.{has_order}
 use Rattle.query_ast.specs.Spelled.{spelled}
 use Rattle.query_ast.specs.Sought.{Sought, Soughts, no_more, more}
 use Rattle.query_ast.specs.Sought as sought
@@ -59,13 +59,6 @@ first_byte (asks.OneOf n ms) clause = n
 
 abbrev pub member_byte : Member → ℕ
 member_byte m = if m.quoted then m.place.from - 1 else m.place.from
-
--- ranges and comparisons are of numbers and datetimes
-abbrev pub has_order : Kind → Bool
-has_order kinds.I64 = true
-has_order kinds.U64 = true
-has_order kinds.Datetime = true
-has_order _ = false
 
 -- where a text is no value of the kind
 abbrev pub bad_bound : List ℕ → Kind → Bound → Option ℕ

@@ -2,6 +2,7 @@
 
 ghost use Rattle.std.specs.Prelude.{◌≡◌, IfOk, is_some, map, not};
 ghost use Rattle.query_ast.specs.Meaning.{is_text};
+ghost use Rattle.query_ast.specs.Queries.{has_order};
 ghost use Rattle.query_ast.specs.Spelled.{spelled};
 ghost use Rattle.query_ast.specs.Sought.{view};
 ghost use Rattle.query_ast.specs.Sought as sought;
@@ -25,7 +26,7 @@ fn is_text_kind(kind: Kind) -> bool
 
 /// Ranges and comparisons are of numbers and datetimes.
 fn is_ordered(kind: Kind) -> bool
-    ensures { result ≡ spec.has_order kind }
+    ensures { result ≡ has_order kind }
 {
     matches!(kind, Kind::I64 | Kind::U64 | Kind::Datetime)
 }

@@ -10,10 +10,11 @@ use Rattle.query_ast.specs.Sought.{Sought}
 use Rattle.query_reader.specs.Resolve.{query_of}
 use Rattle.query_reader.specs.declared.refusal.QueryError.{QueryError}
 use Rattle.agg_model.specs.declared.agg_error.AggError.{AggError}
-use Rattle.agg_nested.specs.Checking.{first_refusal}
+use Rattle.agg_nested.specs.Checking.{first_refusal, CanCount, HaveSteps}
 use Rattle.agg_nested.specs.declared.request.NestedAgg.{NestedAgg}
 use Rattle.agg_nested.proofs.Refusals.{have_steps}
-use Rattle.search_api.specs.Answerable.{AreTimed, AreCounted, CanAsk, IsAnswerable}
+use Rattle.search_api.specs.Answerable.{AreTimed, IsAnswerable}
+use Rattle.query_ast.specs.Askable.{CanAsk}
 use Rattle.search_api.specs.Kinds.{◌>>=◌}
 use Rattle.search_api.specs.Resolved.{Search, searched, sort_of, aggs_of, fast_sort, timed, query_in, query_or, checked, unless_refused, is_fast, search_in, delete_in, searched_paths}
 use Rattle.search_api.specs.Unanswered.{of_query, of_aggs}
@@ -82,14 +83,14 @@ query_in_can s numbers text q dynamic e = go (query_of s numbers text) refl e
     go (Ok p) h k = query_can s numbers text q dynamic (let y : ◌≡◌ {A = Result Sought Unanswered} (Ok p) (Ok q) = k in let z : p ≡ q = cc in subst (λ (x : Sought). query_of s numbers text ≡ Ok x) z h)
     go (Err error) h k = absurd (let y : ◌≡◌ {A = Result Sought Unanswered} (Err (of_query error)) (Ok q) = k in cc)
 
-counted_can : (s : Schema) (asked : List AskedAgg) (aggs given : List NestedAgg) → aggs_of s.fields asked ≡ Ok aggs → checked s aggs ≡ Ok given → AreCounted s given
+counted_can : (s : Schema) (asked : List AskedAgg) (aggs given : List NestedAgg) → aggs_of s.fields asked ≡ Ok aggs → checked s aggs ≡ Ok given → CanCount s given × HaveSteps given
 counted_can s asked aggs given h e = go (first_refusal s.fields aggs) refl e
   where
-    go : (o : Option AggError) → first_refusal s.fields aggs ≡ o → unless_refused aggs o ≡ Ok given → AreCounted s given
+    go : (o : Option AggError) → first_refusal s.fields aggs ≡ o → unless_refused aggs o ≡ Ok given → CanCount s given × HaveSteps given
     go None n k =
         let within = aggs_within s.fields asked aggs h in
-        subst (λ (xs : List NestedAgg). AreCounted s xs) (same_ok aggs given k)
-        (record { over = within; none = n; steps = have_steps s.fields aggs within n })
+        subst (λ (xs : List NestedAgg). CanCount s xs × HaveSteps xs) (same_ok aggs given k)
+        (record { over = within; none = n }, have_steps s.fields aggs within n)
     go (Some error) n k = absurd (let y : ◌≡◌ {A = Result (List NestedAgg) Unanswered} (Err (of_aggs error)) (Ok given) = k in cc)
 
 -- ---- requests
@@ -104,6 +105,7 @@ search_can s defaults asked search dynamic e =
     let t = bind_some (timed s asked.selection.times) _ search d.2 in
     let q = bind_some (query_in s a.0 asked.selection.query) _ search t.2 in
     let k = bind_some (checked s c.0) _ search q.2 in
+    let can = counted_can s asked.aggs c.0 k.0 c.1 k.1 in
     let made : Search = record { query = q.0; times = t.0; start_offset = asked.start_offset; max_hits = asked.max_hits; sort = d.0; aggs = k.0 } in
     let y : ◌≡◌ {A = Result Search Unanswered} (Ok made) (Ok search) = k.2 in
     subst (λ (x : Search). IsAnswerable s x) (let z : made ≡ search = cc in z)
@@ -111,7 +113,8 @@ search_can s defaults asked search dynamic e =
       query = query_in_can s a.0 asked.selection.query q.0 dynamic q.1;
       sort = sort_can s asked.sort_by b.0 d.0 b.1 d.1;
       times = timed_can s asked.selection.times t.0 t.1;
-      aggs = counted_can s asked.aggs c.0 k.0 c.1 k.1;
+      aggs = can.0;
+      steps = can.1;
     })
 
 pub delete_can : (s : Schema) (defaults : List ℕ) (asked : Selection) (deletion : Deletion) → delete_in s defaults asked ≡ Ok deletion → AreTimed s deletion.times

@@ -4,19 +4,17 @@ use Rattle.std.proofs.lemmas.Bool.{lt-ltb}
 use Rattle.std.specs.Option.{IfSome}
 use Rattle.doc_value.specs.Documents.{IsDynamic}
 use Rattle.doc_value.specs.declared.schema.Field.{Field}
-use Rattle.doc_value.specs.declared.schema.Kind.{Kind}
-use Rattle.doc_value.specs.declared.schema.Kind.TheVariants as kinds
 use Rattle.doc_value.specs.declared.schema.Schema.{Schema}
 use Rattle.dynamic_paths.specs.LeafTexts.{leaf_text, fits}
 use Rattle.query_ast.specs.FieldTokens.{field_tokens}
 use Rattle.query_ast.specs.Meaning.{is_text}
-use Rattle.query_ast.specs.Queries as queries
 use Rattle.query_ast.specs.Sought.{Sought, Soughts, no_more, more}
 use Rattle.query_ast.specs.Sought as sought
 use Rattle.query_reader.specs.Asking.{Asking}
 use Rattle.query_reader.specs.Asking as asks
 use Rattle.query_reader.specs.Machine.{reads}
-use Rattle.query_reader.specs.Resolve.{◌>>=◌, leaf_item, leaf_clause, overlong_clause, unnamed_clause, has_order, place_unless, first_of, bad_value, bad_range, bad_at, first_bad, is_unplaced, unplaced, unplaced_at, unplaced_members, first_unplaced, indexed_at, all_indexed, asked_of, asked_at, asked_after, range_of, item_of, member_byte, and_then, over_fields, clause_of, resolve_clause, resolve, resolve_each, number_of, first_byte, query_of}
+use Rattle.query_reader.specs.Resolve.{◌>>=◌, leaf_item, leaf_clause, overlong_clause, unnamed_clause, place_unless, first_of, bad_value, bad_range, bad_at, first_bad, is_unplaced, unplaced, unplaced_at, unplaced_members, first_unplaced, indexed_at, all_indexed, asked_of, asked_at, asked_after, range_of, item_of, member_byte, and_then, over_fields, clause_of, resolve_clause, resolve, resolve_each, number_of, first_byte, query_of}
+use Rattle.query_ast.specs.Queries.{has_order}
 use Rattle.query_reader.proofs.Holding.{IsHolder, holder, few_tokens}
 use Rattle.query_reader.specs.Texts.{text_at}
 use Rattle.query_reader.specs.Tree.{Tree, Trees, no_trees, behind}
@@ -30,7 +28,7 @@ use Rattle.query_reader.specs.declared.fault.Fault.{Fault}
 use Rattle.query_reader.specs.declared.fault.Fault.TheVariants as faults
 use Rattle.query_reader.specs.declared.refusal.QueryError.{QueryError}
 use Rattle.query_reader.specs.declared.refusal.QueryError.TheVariants as refusals
-use Rattle.search_api.specs.Answerable.{CanPlace, CanPlaceEach, CanAsk, CanAskEach}
+use Rattle.query_ast.specs.Askable.{CanPlace, CanPlaceEach, CanAsk, CanAskEach}
 
 -- ---- places that are none
 unless_none : (b : Bool) (n : ℕ) → place_unless b n ≡ None → b ≡ true
@@ -49,14 +47,6 @@ both_true : (a b : Bool) → a && b ≡ true → (a ≡ true) × (b ≡ true)
 both_true true b e = (refl, e)
 both_true false b e = absurd (let y : false ≡ true = e in cc)
 
-ordered : (kind : Kind) → has_order kind ≡ true → queries.has_order kind ≡ true
-ordered kinds.Text e = e
-ordered kinds.TextList e = e
-ordered kinds.I64 e = e
-ordered kinds.U64 e = e
-ordered kinds.Bool e = e
-ordered kinds.Datetime e = e
-
 -- ---- texts of several tokens
 placed : (t p l : Bool) → not (t && (not p && l)) ≡ true → t ≡ true → l ≡ true → p ≡ true
 placed t true l e h k = refl
@@ -64,14 +54,14 @@ placed true false true e h k = absurd (let y : false ≡ true = e in cc)
 placed true false false e h k = absurd (let y : false ≡ true = k in cc)
 placed false false l e h k = absurd (let y : false ≡ true = h in cc)
 
-can_place : (text : List ℕ) (f : Field) → not (is_unplaced f text) ≡ true → CanPlace text f
+can_place : (text : List ℕ) (f : Field) → not (is_unplaced f text) ≡ true → CanPlace f text
 can_place text f e h l = placed (is_text f.kind) f.positions (nat_lt 1 (length (field_tokens f text))) e h (lt-ltb 1 (length (field_tokens f text)) l)
 
 quoted_place : (q u : Bool) → not (q && u) ≡ true → q ≡ true → not u ≡ true
 quoted_place true u e h = e
 quoted_place false u e h = absurd (let y : false ≡ true = h in cc)
 
-can_place_each : (text : List ℕ) (f : Field) (ms : List Member) → unplaced_members text f ms ≡ None → CanPlaceEach (map (item_of text) ms) f
+can_place_each : (text : List ℕ) (f : Field) (ms : List Member) → unplaced_members text f ms ≡ None → CanPlaceEach f (map (item_of text) ms)
 can_place_each text f [] e = tt
 can_place_each text f (m ∷ ms) e =
     let p = first_none (place_unless (not (m.quoted && is_unplaced f (text_at text m.place))) (member_byte m)) (unplaced_members text f ms) e in (
@@ -82,11 +72,11 @@ can_place_each text f (m ∷ ms) e =
 -- ---- what is asked of one field
 module _ (s : Schema) (text : List ℕ) (n : ℕ) (f : Field) (here : slice_get s.fields n ≡ Some f) (indexed : f.indexed ≡ true) where
   range_can : (r : Ranged) → has_order f.kind ≡ true → CanAsk s (range_of text f.kind n r)
-  range_can (Between lc low high hc) o = rw here (indexed, ordered f.kind o)
-  range_can (Compared AtLeast b) o = rw here (indexed, ordered f.kind o)
-  range_can (Compared Above b) o = rw here (indexed, ordered f.kind o)
-  range_can (Compared AtMost b) o = rw here (indexed, ordered f.kind o)
-  range_can (Compared Below b) o = rw here (indexed, ordered f.kind o)
+  range_can (Between lc low high hc) o = rw here (indexed, o)
+  range_can (Compared AtLeast b) o = rw here (indexed, o)
+  range_can (Compared Above b) o = rw here (indexed, o)
+  range_can (Compared AtMost b) o = rw here (indexed, o)
+  range_can (Compared Below b) o = rw here (indexed, o)
 
   asked_can : (a : Asking) → bad_value text a f ≡ None → unplaced text a f ≡ None → CanAsk s (asked_of text a n f)
   asked_can asks.Any b u = rw here (indexed, tt)
@@ -113,11 +103,11 @@ same_ok : {A : Type 0} (x y : A) → ◌≡◌ {A = Result A QueryError} (Ok x) 
 same_ok x y e = cc
 
 -- ---- what is asked of a path that no field has
-holder_place : (f : Field) (w : List ℕ) → IsHolder f → CanPlace w f
+holder_place : (f : Field) (w : List ℕ) → IsHolder f → CanPlace f w
 holder_place f w h e l = absurd (let y : true ≡ false = sym (lt-ltb 1 (length (field_tokens f w)) l) ∙ few_tokens f w h in cc)
 
 module _ (s : Schema) (text path : List ℕ) (n : ℕ) (f : Field) (here : slice_get s.fields n ≡ Some f) (h : IsHolder f) where
-  place_each : (ms : List Member) → CanPlaceEach (map (leaf_item text path) ms) f
+  place_each : (ms : List Member) → CanPlaceEach f (map (leaf_item text path) ms)
   place_each [] = tt
   place_each (m ∷ ms) = (λ e. holder_place f (leaf_text path (text_at text m.place)) h, place_each ms)
 

@@ -1,15 +1,13 @@
 -- Each task of a legal history can be asked of a split.
-use Rattle.std.proofs.Common.{◌≡◌, ℕ, zero, suc, Bool, true, false, List, [], ◌∷◌, ◌++◌, drop, slice_get, refl, sym, ◌∙◌, subst, arith, Ok, Err, Option, Some, None, Result}
+use Rattle.std.proofs.Common.{◌≡◌, ℕ, zero, suc, Bool, true, false, List, [], ◌∷◌, ◌++◌, drop, refl, sym, ◌∙◌, subst, arith, Ok, Err, Option, Some, None, Result}
 use Rattle.std.specs.Prelude.{IsOk, if◌then◌else◌}
-use Rattle.std.specs.Option.{IfSome, MatchOption}
+use Rattle.std.specs.Option.{IfSome}
 use Rattle.std.specs.Str.{is_utf8}
-use Rattle.doc_sets.specs.Texts.{CanPlaceEach}
+use Rattle.query_ast.specs.Askable.{CanAsk}
 use Rattle.doc_value.specs.Documents.{IsDynamic}
-use Rattle.doc_value.specs.declared.schema.Field.{Field}
 use Rattle.doc_value.specs.declared.schema.Schema.{Schema}
 use Rattle.delete_tasks.specs.Removes.{DeleteTask}
 use Rattle.index_config.specs.declared.config.IndexConfig.{IndexConfig}
-use Rattle.leaf_search.specs.Askable.{CanAsk, CanAskEach, HasIndexed}
 use Rattle.meta_journal.specs.declared.entry.Act.{Act}
 use Rattle.meta_journal.specs.declared.entry.Act.TheVariants.{Fence, Create, Stage, Publish, Replace, Raise, Task, MarkStaged, Remove, Retire}
 use Rattle.meta_store.specs.History.{History}
@@ -18,50 +16,16 @@ use Rattle.meta_store.specs.Readings.{config_after, config_of, query_said, readi
 use Rattle.meta_store.specs.State.{Legal, MayCome, state_of}
 use Rattle.meta_store.specs.Tasks.{query_in, tasks_after, tasks_of}
 use Rattle.meta_store.specs.declared.config.Config.{Config}
-use Rattle.query_ast.specs.Queries.{HasField}
-use Rattle.query_ast.specs.Sought.{Sought, Soughts, no_more, more}
-use Rattle.query_ast.specs.Sought as sought
-use Rattle.query_ast.specs.declared.query.Item.{Item}
+use Rattle.query_ast.specs.Sought.{Sought}
 use Rattle.query_reader.specs.Resolve.{query_of}
 use Rattle.query_reader.specs.declared.refusal.QueryError.{QueryError}
 use Rattle.query_reader.specs.declared.refusal.QueryError.TheVariants.{Syntax}
 use Rattle.search_api.proofs.Askable.{query_can}
-use Rattle.search_api.specs.Answerable as index
-use Rattle.search_api.specs.Answerable.{IsIndexedFor}
 use Rattle.index_world.proofs.Asking.{begun_history}
 use Rattle.index_world.specs.Config.{query_with, read_query, reads, text_numbers}
 use Rattle.upkeep_run.specs.Dropping.{AreAsked}
 
 -- ---- what a text asks, a split can be asked
-
-field_with : (s : Schema) (n : ℕ) (P Q : Field → Type 0) → ((f : Field) → P f → Q f) → HasField s n (IsIndexedFor P) → HasIndexed s n Q
-field_with s n P Q so h = go (slice_get s.fields n) h
-  where
-    go : (o : Option Field) → MatchOption o ⊥ (λ f. (f.indexed ≡ true) × P f) → MatchOption o ⊥ (λ f. (f.indexed ≡ true) × Q f)
-    go None h = h
-    go (Some f) h = (h.0, so f h.1)
-
-place_each : (items : List Item) (f : Field) → index.CanPlaceEach items f → CanPlaceEach f items
-place_each [] f h = tt
-place_each (item ∷ items) f h = (h.0, place_each items f h.1)
-
-mutual
-  can_ask : (s : Schema) (q : Sought) → index.CanAsk s q → CanAsk s q
-  can_ask s sought.All h = h
-  can_ask s sought.Nothing h = h
-  can_ask s (sought.Word n text) h = h
-  can_ask s (sought.Quoted n text) h = h
-  can_ask s (sought.Prefix n text) h = h
-  can_ask s (sought.Exists n) h = h
-  can_ask s (sought.Range n low high) h = h
-  can_ask s (sought.AnyOf n items) h = field_with s n (index.CanPlaceEach items) (λ f. CanPlaceEach f items) (place_each items) h
-  can_ask s (sought.Not q) h = can_ask s q h
-  can_ask s (sought.And qs) h = can_ask_each s qs h
-  can_ask s (sought.Or qs) h = can_ask_each s qs h
-
-  can_ask_each : (s : Schema) (qs : Soughts) → index.CanAskEach s qs → CanAskEach s qs
-  can_ask_each s no_more h = h
-  can_ask_each s (more q qs) h = (can_ask s q h.0, can_ask_each s qs h.1)
 
 module _ (config : IndexConfig) (dynamic : IfSome config.schema.dynamic (IsDynamic config.schema.fields)) where
   read_can : (text : List ℕ) (fields : List (List ℕ)) (q : Sought) → read_query config text fields ≡ Ok q → CanAsk config.schema q
@@ -72,7 +36,7 @@ module _ (config : IndexConfig) (dynamic : IfSome config.schema.dynamic (IsDynam
       by (Ok numbers) e = utf8 (is_utf8 text) e
         where
           utf8 : (b : Bool) → (if b then query_of config.schema numbers text else Err (Syntax 0)) ≡ Ok q → CanAsk config.schema q
-          utf8 true e = can_ask config.schema q (query_can config.schema numbers text q dynamic e)
+          utf8 true e = query_can config.schema numbers text q dynamic e
           utf8 false e = cc e
 
   task_can : (text : List ℕ) (fields : List (List ℕ)) (r : Result Sought QueryError) → read_query config text fields ≡ r → IsOk r → CanAsk config.schema (query_in r)

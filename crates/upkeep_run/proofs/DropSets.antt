@@ -26,7 +26,7 @@ use Rattle.split_merge.specs.Keeping.{RiseFrom, is_named, kept, kept_from}
 use Rattle.index_world.specs.Replacing.{is_dropped_by, left_in}
 use Rattle.index_world.specs.Seen.{place_of}
 use Rattle.upkeep_run.proofs.Corrupted.{zip_more}
-use Rattle.leaf_search.specs.Askable.{CanAsk}
+use Rattle.query_ast.specs.Askable.{CanAsk}
 use Rattle.upkeep_run.specs.Dropping.{AreAdmitted, AreAsked, HasDropped, IsAdmitted, IsDropSet, came_before, drops, holds, is_dropped, least_of}
 
 -- ---- the tests

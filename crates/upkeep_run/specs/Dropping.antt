@@ -7,7 +7,7 @@ use Rattle.doc_sets.specs.Bits.{has}
 use Rattle.doc_sets.specs.declared.bits.DocBits.{DocBits}
 use Rattle.doc_value.specs.declared.schema.Schema.{Schema}
 use Rattle.index_world.specs.Seen.{place_of}
-use Rattle.leaf_search.specs.Askable.{CanAsk}
+use Rattle.query_ast.specs.Askable.{CanAsk}
 use Rattle.source_checkpoint.specs.Deltas.{range_of}
 use Rattle.source_checkpoint.specs.declared.span.Span.{Span}
 use Rattle.split_bundle.specs.Splits.{IsSplit}

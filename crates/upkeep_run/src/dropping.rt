@@ -8,7 +8,7 @@ ghost use Rattle.doc_sets.specs.BitWords.{members};
 ghost use Rattle.doc_sets.specs.Faults.{IsMemory};
 ghost use Rattle.doc_sets.specs.Sets.{is_one_of};
 ghost use Rattle.doc_value.specs.declared.schema.Schema.{Schema};
-ghost use Rattle.leaf_search.specs.Askable.{CanAsk};
+ghost use Rattle.query_ast.specs.Askable.{CanAsk};
 ghost use Rattle.source_checkpoint.specs.Deltas.{range_of};
 ghost use Rattle.source_checkpoint.specs.declared.span.Span.{Span};
 ghost use Rattle.split_bundle.specs.Files.{Parts, file_bytes};

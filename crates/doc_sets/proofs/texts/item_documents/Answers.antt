@@ -2,7 +2,8 @@ use Rattle.std.proofs.Common.{List, ℕ, subst, sym, MatchResult}
 use Rattle.query_ast.specs.Meaning.{quoted_holds, word_holds, values_in}
 use Rattle.doc_sets.specs.Asking.{LacksLookups}
 use Rattle.doc_sets.specs.Sets.{IsSetOf}
-use Rattle.doc_sets.specs.Texts.{CanPlace, text_lookups}
+use Rattle.doc_sets.specs.Texts.{text_lookups}
+use Rattle.query_ast.specs.Askable.{CanPlace}
 use Rattle.doc_sets.proofs.TextLaws.{item_quoted, item_word}
 use Rattle.doc_sets.proofs.texts.item_documents.Goals as goal
 

@@ -7,7 +7,8 @@ use Rattle.split_bundle.specs.Files.{Parts}
 use Rattle.doc_sets.specs.Needed.{IsSearched}
 use Rattle.doc_sets.specs.Sets.{IsSetOf}
 use Rattle.doc_sets.specs.Reads.{AreRead, SomeMeets}
-use Rattle.doc_sets.specs.Texts.{CanPlaceEach, item_lookups}
+use Rattle.doc_sets.specs.Texts.{item_lookups}
+use Rattle.query_ast.specs.Askable.{CanPlaceEach}
 use Rattle.doc_sets.specs.declared.leaf_error.LeafError.{LeafError}
 use Rattle.doc_sets.proofs.texts.some_documents.Given as goal
 

@@ -10,7 +10,7 @@ use Rattle.doc_sets.specs.Sets.{IsSetOf}
 use Rattle.doc_sets.proofs.Causes.{cause_wider, handed_on}
 use Rattle.doc_sets.proofs.Steps.{and_true, none_behind, or_false}
 use Rattle.doc_sets.proofs.WalkSteps.{set_alike}
-use Rattle.leaf_search.specs.Askable.{CanAsk}
+use Rattle.query_ast.specs.Askable.{CanAsk}
 use Rattle.leaf_search.specs.Asks.{lookups_of, lookups_of_each}
 use Rattle.leaf_search.proofs.QuerySteps.{row_all, all_step, some_step, can_at, asked_at, of_query}
 use Rattle.leaf_search.proofs.evaluate.+evaluate.Goals as goal

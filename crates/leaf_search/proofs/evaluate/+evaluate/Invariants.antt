@@ -5,7 +5,7 @@ use Rattle.std.proofs.Common.{◌≡◌, ◌&&◌, ◌||◌, Bool, List, drop}
 use Rattle.doc_value.specs.declared.doc.DocField.{DocField}
 use Rattle.query_ast.specs.Meaning.{all_hold, some_hold}
 use Rattle.query_ast.specs.Sought.{view_all}
-use Rattle.leaf_search.specs.Askable.{CanAskEach}
+use Rattle.query_ast.specs.Askable.{CanAskEach}
 use Rattle.split_bundle.specs.declared.placed.Placed.{Placed}
 use Rattle.split_bundle.specs.Files.{Parts}
 use Rattle.doc_sets.specs.Needed.{IsSearched}

@@ -1,7 +1,8 @@
 use Rattle.leaf_search.proofs.ReadQueries.{field_reads, no_field_reads}
 use Rattle.std.proofs.Common.{◌≡◌, true, Some, slice_get}
 use Rattle.query_ast.specs.Meaning.{some_item_holds, values_in}
-use Rattle.doc_sets.specs.Texts.{CanPlaceEach, item_lookups}
+use Rattle.doc_sets.specs.Texts.{item_lookups}
+use Rattle.query_ast.specs.Askable.{CanPlaceEach}
 use Rattle.leaf_search.proofs.QuerySteps.{at_field, field_fact, no_field}
 use Rattle.leaf_search.proofs.fields.with_some.Goals as goal
 

@@ -5,7 +5,7 @@ use Rattle.std.proofs.Common.{◌≡◌, ◌∙◌, ℕ, length, filter, subst, 
 use Rattle.query_ast.specs.Meaning.{meaning}
 use Rattle.query_ast.specs.Sought.{view}
 use Rattle.doc_sets.specs.Asking.{LacksLookups}
-use Rattle.leaf_search.specs.Askable.{CanAsk}
+use Rattle.query_ast.specs.Askable.{CanAsk}
 use Rattle.leaf_search.specs.Asks.{lookups_of}
 use Rattle.leaf_search.proofs.LeafSteps.{handed}
 use Rattle.leaf_search.proofs.QueryCounts.{not_counted}

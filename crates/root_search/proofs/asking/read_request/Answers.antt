@@ -13,4 +13,4 @@ read_search-requires-clause-narrow c =
 pub read_search-requires-clause-steps : goal.read_search-requires-clause-steps
 read_search-requires-clause-steps c =
     let can = subst (λ (r : Resolved). CanAnswer c.args.config.now.schema (view r)) c.in-Search.is c.in_ok-asked.ensures.answerable in
-    intervals_kept c.in-Search.search.aggs can.aggs.steps
+    intervals_kept c.in-Search.search.aggs can.steps

@@ -3,7 +3,7 @@ use Rattle.std.specs.Prelude.{slice_index}
 use Rattle.delete_tasks.specs.Removes.{DeleteTask}
 use Rattle.doc_sets.specs.Bits.{has}
 use Rattle.doc_sets.specs.Sets.{is_one_of}
-use Rattle.leaf_search.specs.Askable.{CanAsk}
+use Rattle.query_ast.specs.Askable.{CanAsk}
 use Rattle.leaf_search.specs.Numbers.{numbers_of}
 use Rattle.query_ast.specs.Meaning.{meaning, within_times}
 use Rattle.upkeep_run.specs.Dropping.{drops, holds}
