@@ -25,7 +25,8 @@ use Rattle.split_states.specs.declared.facts.Times.{Times}
 use Rattle.split_bundle.specs.declared.placed.Placed.{Placed}
 use Rattle.split_form.specs.Facts.{facts_of}
 use Rattle.split_form.specs.Sorted.{sorted}
-use Rattle.split_form.specs.Tagged.{values_of, second_of, ends_of, times_of, term_of, listed, field_tags, tag_fields, tags_of}
+use Rattle.split_form.specs.Tagged.{values_of, ends_of, times_of, listed, field_tags, tags_of}
+use Rattle.split_bundle.specs.Tagged.{second_of, value_term, tag_numbers}
 use Rattle.split_form.proofs.Rising.{here, later, first_or, in_sorted}
 use Rattle.meta_store.specs.Planning.{meets}
 use Rattle.leaf_search.specs.Answers.{passes, found}
@@ -64,7 +65,7 @@ listed_allows t ts h = by (nat_le (length ts) 100)
     by true = listed_in t ts h
     by false = refl
 
-term_in : (v : Value) → HasTerm v → Contains (term_of v) (term_bytes v)
+term_in : (v : Value) → HasTerm v → Contains (value_term v) (term_bytes v)
 term_in (values.Text t) h = by (nat_le (length t) max_token) refl
   where
     by : (b : Bool) → nat_le (length t) max_token ≡ b → Contains (if b then t ∷ [] else []) t
@@ -77,7 +78,7 @@ term_in (values.Datetime z) h = here (term_bytes (values.Datetime z)) []
 
 module _ (documents : List Placed) where
   abbrev terms_in : ℕ → List (List ℕ)
-  terms_in n = flat_map term_of (values_of n documents)
+  terms_in n = flat_map value_term (values_of n documents)
 
   tag_allowed : (ns : List ℕ) (n : ℕ) (t : List ℕ) → Contains (terms_in n) t → allowed (map (field_tags documents) ns) n (Some t) ≡ true
   tag_allowed [] n t h = refl
@@ -96,7 +97,7 @@ module _ (documents : List Placed) where
   pub facts_hold : (fields : List Field) (d : Placed) → Contains documents d → AreFactsOf (tags_of fields documents) d.doc
   facts_hold fields d c n k v l t =
       let w : Value = slice_index_or (values_in d.doc n) k v in
-      tag_allowed (tag_fields 0 fields) n (term_bytes w) (in_flat term_of (values_of n documents) w (term_bytes w) (value_in d n k v c l) (term_in w t))
+      tag_allowed (tag_numbers 0 fields) n (term_bytes w) (in_flat value_term (values_of n documents) w (term_bytes w) (value_in d n k v c l) (term_in w t))
 
 -- ---- times
 

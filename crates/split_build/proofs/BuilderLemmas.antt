@@ -26,7 +26,8 @@ use Rattle.split_build.specs.HeldTerms.{HasSaid}
 use Rattle.split_build.specs.Limits.{MakeNone, max_documents}
 use Rattle.split_build.specs.Said.{Said, in_document, said_from}
 use Rattle.split_build.specs.Sections.{AreLogs}
-use Rattle.split_build.specs.Tags.{AreTagsOf, tag_numbers}
+use Rattle.split_build.specs.Tags.{AreTagsOf}
+use Rattle.split_bundle.specs.Tagged.{tag_numbers}
 use Rattle.split_build.specs.Times.{AreTimes, seconds_in}
 use Rattle.split_build.proofs.TakenLemmas.{body_weighs, weight_more, documents_more, light_few, light_within, said_more}
 

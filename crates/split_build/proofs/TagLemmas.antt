@@ -9,7 +9,8 @@ use Rattle.doc_value.specs.declared.schema.Field.{Field}
 use Rattle.std.specs.List.{flat_map}
 use Rattle.split_build.specs.HeldDocuments.{with_name}
 use Rattle.split_build.specs.Members.{IsAmong}
-use Rattle.split_build.specs.Tags.{AreDistinct, AreMany, AreTags, AreTagsOf, max_tags, tag_numbers, term_of, terms_in}
+use Rattle.split_build.specs.Tags.{AreDistinct, AreMany, AreTags, AreTagsOf, terms_in}
+use Rattle.split_bundle.specs.Tagged.{max_tags, tag_numbers, value_term}
 use Rattle.split_build.specs.HeldTags.{HasTags, HasTerms, HasTermsOf}
 use Rattle.split_build.proofs.KeysLemmas.{contains_among, among_contains}
 use Rattle.split_build.proofs.DocumentLemmas.{among_more, among_end}
@@ -122,10 +123,10 @@ all_told ds numbers facts logs none a = by a.left a.whole (subst (λ (ls : List 
 -- ---- a document more
 
 pub terms_with : (ds : List Placed) (d : Placed) (n : ℕ) (old new : TagLog) (doc : List DocField) (vs : List Value) → doc ≡ d.doc → vs ≡ values_in doc old.number → new.number ≡ old.number
-    → ((terms : List (List ℕ)) → HasTerms old.terms.items terms → HasTerms new.terms.items (terms ++ flat_map term_of vs)) → HasTermsOf ds n old → HasTermsOf (ds ++ d ∷ []) n new
+    → ((terms : List (List ℕ)) → HasTerms old.terms.items terms → HasTerms new.terms.items (terms ++ flat_map value_term vs)) → HasTermsOf ds n old → HasTermsOf (ds ++ d ∷ []) n new
 terms_with ds d n old new doc vs doc_is vs_are number more h = record {
   number_is = number ∙ h.number_is;
   terms =
       let values : vs ≡ values_in d.doc n = vs_are ∙ ap (λ (x : List DocField). values_in x old.number) doc_is ∙ ap (λ (k : ℕ). values_in d.doc k) h.number_is in
-      subst (λ (ts : List (List ℕ)). HasTerms new.terms.items ts) (ap (λ (ws : List Value). terms_in n ds ++ flat_map term_of ws) values ∙ sym (terms_more n ds d)) (more (terms_in n ds) h.terms);
+      subst (λ (ts : List (List ℕ)). HasTerms new.terms.items ts) (ap (λ (ws : List Value). terms_in n ds ++ flat_map value_term ws) values ∙ sym (terms_more n ds d)) (more (terms_in n ds) h.terms);
 }

@@ -16,9 +16,10 @@ use Rattle.split_bundle.proofs.Light.{IsShortText, are_light, weighs, each_light
 use Rattle.split_build.specs.Bodies.{body_of}
 use Rattle.split_build.specs.Limits.{AreWithin, max_documents}
 use Rattle.split_build.specs.Said.{Said, in_document, said_from}
-use Rattle.split_build.specs.Tags.{term_of, terms_in}
+use Rattle.split_build.specs.Tags.{terms_in}
+use Rattle.split_bundle.specs.Tagged.{value_term, second_of}
 use Rattle.split_states.specs.declared.facts.Times.{Times}
-use Rattle.split_build.specs.Times.{AreTimes, second_of, seconds_in}
+use Rattle.split_build.specs.Times.{AreTimes, seconds_in}
 use Rattle.split_build.specs.Walks.{IsShort, IsShortDoc}
 use Rattle.split_build.specs.WrittenTerms.{CanBeListed}
 use Rattle.split_bundle.specs.Keys.{keys_of}
@@ -99,8 +100,8 @@ flat_more : {X Y : Type 0} (f : X → List Y) (xs : List X) (x : X) → flat_map
 flat_more f [] x = append-nil (f x)
 flat_more f (y ∷ ys) x = ap (λ l. f y ++ l) (flat_more f ys x) ∙ sym (append_assoc (f y) (flat_map f ys) (f x))
 
-pub terms_more : (n : ℕ) (ds : List Placed) (d : Placed) → terms_in n (ds ++ d ∷ []) ≡ terms_in n ds ++ flat_map term_of (values_in d.doc n)
-terms_more n ds d = flat_more (λ (x : Placed). flat_map term_of (values_in x.doc n)) ds d
+pub terms_more : (n : ℕ) (ds : List Placed) (d : Placed) → terms_in n (ds ++ d ∷ []) ≡ terms_in n ds ++ flat_map value_term (values_in d.doc n)
+terms_more n ds d = flat_more (λ (x : Placed). flat_map value_term (values_in x.doc n)) ds d
 
 pub seconds_more : (n : ℕ) (ds : List Placed) (d : Placed) → seconds_in (Some n) (ds ++ d ∷ []) ≡ seconds_in (Some n) ds ++ flat_map second_of (values_in d.doc n)
 seconds_more n ds d = flat_more (λ (x : Placed). flat_map second_of (values_in x.doc n)) ds d

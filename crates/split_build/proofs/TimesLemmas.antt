@@ -9,7 +9,8 @@ use Rattle.std.proofs.lemmas.List.Elements.{Contains-append_left, Contains-push}
 use Rattle.doc_value.specs.declared.doc.Value.{Value}
 use Rattle.doc_value.specs.declared.doc.Value.TheVariants as values
 use Rattle.split_states.specs.declared.facts.Times.{Times}
-use Rattle.split_build.specs.Times.{AreEnds, second_of}
+use Rattle.split_build.specs.Times.{AreEnds}
+use Rattle.split_bundle.specs.Tagged.{second_of}
 
 all_within : (least greatest low high : ℤ) (zs : List ℤ) (z : ℤ) → low ≤ℤ least → greatest ≤ℤ high → low ≤ℤ z → z ≤ℤ high
     → AllByRecursion (λ y. (least ≤ℤ y) × (y ≤ℤ greatest)) zs → AllByRecursion (λ y. (low ≤ℤ y) × (y ≤ℤ high)) (zs ++ z ∷ [])

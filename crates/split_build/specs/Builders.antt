@@ -16,7 +16,7 @@ use Rattle.split_build.specs.HeldColumns.{HasColumns}
 use Rattle.split_build.specs.HeldTags.{HasTags}
 use Rattle.split_build.specs.Bodies.{body_of}
 use Rattle.split_build.specs.Said.{said_from}
-use Rattle.split_build.specs.Tags.{tag_numbers}
+use Rattle.split_bundle.specs.Tagged.{tag_numbers}
 use Rattle.split_build.specs.Times.{AreTimes, seconds_in}
 use Rattle.split_build.specs.Limits.{AreWithin}
 

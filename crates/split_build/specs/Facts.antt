@@ -6,7 +6,8 @@ use Rattle.split_states.specs.declared.facts.RowFacts.{RowFacts}
 use Rattle.split_bundle.specs.declared.placed.Placed.{Placed}
 use Rattle.split_bundle.specs.Documents.{total_weight}
 use Rattle.split_build.specs.Times.{AreTimes, seconds_in}
-use Rattle.split_build.specs.Tags.{AreTagsOf, tag_numbers}
+use Rattle.split_build.specs.Tags.{AreTagsOf}
+use Rattle.split_bundle.specs.Tagged.{tag_numbers}
 
 -- The facts of a split of these documents, whose file has these bytes, where so many records of their ranges were no documents.
 pub record AreFacts (s : Schema) (documents : List Placed) (rejected : ℕ) (bytes : List ℕ) (f : RowFacts) : Type 0 where

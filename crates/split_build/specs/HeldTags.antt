@@ -5,7 +5,8 @@ use Rattle.split_bundle.specs.declared.placed.Placed.{Placed}
 use Rattle.split_bundle.specs.Splits.{AreRising}
 use Rattle.split_build.specs.declared.tags.TagLog.{TagLog}
 use Rattle.split_build.specs.Members.{IsAmong}
-use Rattle.split_build.specs.Tags.{max_tags, terms_in}
+use Rattle.split_build.specs.Tags.{terms_in}
+use Rattle.split_bundle.specs.Tagged.{max_tags}
 
 -- distinct ones of these terms, rising: all of them, unless there are more than can be listed
 pub record HasTerms (listed terms : List (List ℕ)) : Type 0 where

@@ -1,19 +1,10 @@
 -- The times of documents.
 use Rattle.std.specs.Prelude.{◌≡◌, ℕ, ℤ, ◌≤ℤ◌, List, [], ◌∷◌, Option, Some, None, Contains}
 use Rattle.std.specs.List.{flat_map, AllByRecursion}
-use Rattle.doc_value.specs.declared.doc.Value.{Value}
-use Rattle.doc_value.specs.declared.doc.Value.TheVariants as values
 use Rattle.query_ast.specs.Meaning.{values_in}
 use Rattle.split_states.specs.declared.facts.Times.{Times}
 use Rattle.split_bundle.specs.declared.placed.Placed.{Placed}
-
--- the second of a datetime
-abbrev pub second_of : Value → List ℤ
-second_of (values.Datetime z) = z ∷ []
-second_of (values.Text t) = []
-second_of (values.I64 z) = []
-second_of (values.U64 n) = []
-second_of (values.Bool b) = []
+use Rattle.split_bundle.specs.Tagged.{second_of}
 
 -- the seconds of the timestamp field, document by document
 abbrev pub seconds_in : Option ℕ → List Placed → List ℤ

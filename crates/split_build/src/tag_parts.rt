@@ -5,7 +5,8 @@ ghost use Rattle.doc_value.specs.declared.schema.Schema.{Schema};
 ghost use Rattle.doc_value.specs.Documents.{IsSchema};
 ghost use Rattle.split_bundle.specs.declared.placed.Placed.{Placed};
 ghost use Rattle.split_build.specs.HeldTags.{HasTags};
-ghost use Rattle.split_build.specs.Tags.{AreTagsOf, tag_numbers};
+ghost use Rattle.split_build.specs.Tags.{AreTagsOf};
+ghost use Rattle.split_bundle.specs.Tagged.{tag_numbers};
 
 use crate::occurrences::values_in;
 use crate::tags::TagLog;

@@ -3,7 +3,8 @@
 ghost use Rattle.std.specs.Prelude.{◌≡◌, ◌≤◌, ◌∷◌, ◌++◌, [], ℕ, List, length, MatchOption, OnOk};
 ghost use Rattle.std.specs.List.{flat_map, insert};
 ghost use Rattle.split_build.specs.HeldDocuments.{with_name};
-ghost use Rattle.split_build.specs.Tags.{AreTags, term_of};
+ghost use Rattle.split_build.specs.Tags.{AreTags};
+ghost use Rattle.split_bundle.specs.Tagged.{value_term};
 
 use doc_value::{Bytes, FieldTags, Tags, Terms, Value, term_bytes};
 use std::alloc::{AllocError, Global};
@@ -63,7 +64,7 @@ impl TagLog {
 
     fn add_value(&mut self, alloc: Global, value: &Value) -> Result<(), AllocError>
         ensures number { self.new.number ≡ self.old.number }
-        ensures terms { (terms : List (List ℕ)) → HasTerms self.old.terms.items terms → OnOk result (HasTerms self.new.terms.items (terms ++ term_of value.now)) }
+        ensures terms { (terms : List (List ℕ)) → HasTerms self.old.terms.items terms → OnOk result (HasTerms self.new.terms.items (terms ++ value_term value.now)) }
     {
         if self.terms.len() > MAX_TAGS {
             return Ok(());
@@ -81,7 +82,7 @@ impl TagLog {
     /// Adds the terms of some values. After an `Err` nothing is said of what is held.
     pub(crate) fn add_values(&mut self, alloc: Global, values: &[Value]) -> Result<(), AllocError>
         ensures number { self.new.number ≡ self.old.number }
-        ensures terms { (terms : List (List ℕ)) → HasTerms self.old.terms.items terms → OnOk result (HasTerms self.new.terms.items (terms ++ flat_map term_of values.now)) }
+        ensures terms { (terms : List (List ℕ)) → HasTerms self.old.terms.items terms → OnOk result (HasTerms self.new.terms.items (terms ++ flat_map value_term values.now)) }
     {
         let mut rest = values;
         while let Some((value, behind)) = rest.split_first() {

@@ -2,7 +2,8 @@
 
 ghost use Rattle.std.specs.Prelude.{◌≡◌, ◌∷◌, ◌++◌, [], ℤ, List};
 ghost use Rattle.std.specs.List.{flat_map};
-ghost use Rattle.split_build.specs.Times.{AreEnds, AreTimes, second_of};
+ghost use Rattle.split_build.specs.Times.{AreEnds, AreTimes};
+ghost use Rattle.split_bundle.specs.Tagged.{second_of};
 
 use doc_value::Value;
 use split_states::Times;

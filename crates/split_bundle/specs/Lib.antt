@@ -5,6 +5,7 @@ pub mod Lists
 pub mod Columns
 pub mod Files
 pub mod Splits
+pub mod Tagged
 pub mod Reading
 pub mod Pieces
 pub mod Views

@@ -33,7 +33,8 @@ use Rattle.split_form.proofs.Rising.{sorted_rises}
 use Rattle.split_form.specs.Facts.{facts_of}
 use Rattle.split_form.specs.Form.{file_of}
 use Rattle.split_form.specs.Sorted.{with_text, sorted}
-use Rattle.split_form.specs.Tagged.{values_of, second_of, ends_of, times_of, term_of, listed, field_tags, tag_fields}
+use Rattle.split_bundle.specs.Tagged.{second_of, tag_numbers, value_term}
+use Rattle.split_form.specs.Tagged.{values_of, ends_of, times_of, listed, field_tags}
 use Rattle.term_dict.specs.Keys.{is_below}
 use Rattle.text_tokens.specs.Tokens.{max_token}
 
@@ -97,7 +98,7 @@ text_can : (b : Bool) (t : List ℕ) → nat_le (length t) max_token ≡ b → A
 text_can true t e = (let few = leb-true (length t) max_token e in omega (arith, few), tt)
 text_can false t e = tt
 
-term_can : (v : Value) → Unit {0} → AllByRecursion IsString (term_of v)
+term_can : (v : Value) → Unit {0} → AllByRecursion IsString (value_term v)
 term_can (values.Text t) u = text_can (nat_le (length t) max_token) t refl
 term_can (values.I64 z) u = (lit< tt, tt)
 term_can (values.U64 n) u = (lit< tt, tt)
@@ -140,19 +141,19 @@ listed_can ts all r = by (nat_le (length ts) 100) refl
 field_can : (documents : List Placed) (number : ℕ) → number < 2 ^ 64 → CanSpellField (field_tags documents number)
 field_can documents number low = (
   low,
-  listed_can (sorted (flat_map term_of (values_of number documents)))
-      (sorted_can (flat_map term_of (values_of number documents)) (flat_all term_of (λ v. Unit {0}) IsString term_can (values_of number documents) (any_value (values_of number documents))))
-      (sorted_rises (flat_map term_of (values_of number documents))),
+  listed_can (sorted (flat_map value_term (values_of number documents)))
+      (sorted_can (flat_map value_term (values_of number documents)) (flat_all value_term (λ v. Unit {0}) IsString term_can (values_of number documents) (any_value (values_of number documents))))
+      (sorted_rises (flat_map value_term (values_of number documents))),
 )
 
 -- ---- the tag fields
 
-pub fields_can : (documents : List Placed) (number : ℕ) (fields : List Field) → number + length fields < 2 ^ 64 → AllByRecursion CanSpellField (map (field_tags documents) (tag_fields number fields))
+pub fields_can : (documents : List Placed) (number : ℕ) (fields : List Field) → number + length fields < 2 ^ 64 → AllByRecursion CanSpellField (map (field_tags documents) (tag_numbers number fields))
 fields_can documents number [] low = tt
 fields_can documents number (f ∷ fields) low = by f.tag (fields_can documents (suc number) fields (omega (arith, low)))
   where
-    by : (b : Bool) → AllByRecursion CanSpellField (map (field_tags documents) (tag_fields (suc number) fields)) →
-        AllByRecursion CanSpellField (map (field_tags documents) (if b then number ∷ tag_fields (suc number) fields else tag_fields (suc number) fields))
+    by : (b : Bool) → AllByRecursion CanSpellField (map (field_tags documents) (tag_numbers (suc number) fields)) →
+        AllByRecursion CanSpellField (map (field_tags documents) (if b then number ∷ tag_numbers (suc number) fields else tag_numbers (suc number) fields))
     by true rest = (field_can documents number (omega (arith, low)), rest)
     by false rest = rest
 
@@ -168,23 +169,23 @@ low_more : (before : Option FieldTags) (number : ℕ) → IsLow before number �
 low_more None number low = tt
 low_more (Some before) number low = omega (arith, low)
 
-pub fields_rise : (documents : List Placed) (before : Option FieldTags) (number : ℕ) (fields : List Field) → IsLow before number → RisesFrom IsFieldBelow before (map (field_tags documents) (tag_fields number fields))
+pub fields_rise : (documents : List Placed) (before : Option FieldTags) (number : ℕ) (fields : List Field) → IsLow before number → RisesFrom IsFieldBelow before (map (field_tags documents) (tag_numbers number fields))
 fields_rise documents before number [] low = tt
 fields_rise documents before number (f ∷ fields) low =
     by f.tag (fields_rise documents (Some (field_tags documents number)) (suc number) fields (omega arith)) (fields_rise documents before (suc number) fields (low_more before number low))
   where
-    by : (b : Bool) → RisesFrom IsFieldBelow (Some (field_tags documents number)) (map (field_tags documents) (tag_fields (suc number) fields)) →
-        RisesFrom IsFieldBelow before (map (field_tags documents) (tag_fields (suc number) fields)) →
-        RisesFrom IsFieldBelow before (map (field_tags documents) (if b then number ∷ tag_fields (suc number) fields else tag_fields (suc number) fields))
+    by : (b : Bool) → RisesFrom IsFieldBelow (Some (field_tags documents number)) (map (field_tags documents) (tag_numbers (suc number) fields)) →
+        RisesFrom IsFieldBelow before (map (field_tags documents) (tag_numbers (suc number) fields)) →
+        RisesFrom IsFieldBelow before (map (field_tags documents) (if b then number ∷ tag_numbers (suc number) fields else tag_numbers (suc number) fields))
     by true here rest = (low_behind documents before number low, here)
     by false here rest = rest
 
-pub fields_few : (documents : List Placed) (number : ℕ) (fields : List Field) → length (map (field_tags documents) (tag_fields number fields)) ≤ length fields
+pub fields_few : (documents : List Placed) (number : ℕ) (fields : List Field) → length (map (field_tags documents) (tag_numbers number fields)) ≤ length fields
 fields_few documents number [] = omega arith
 fields_few documents number (f ∷ fields) = by f.tag (fields_few documents (suc number) fields)
   where
-    by : (b : Bool) → length (map (field_tags documents) (tag_fields (suc number) fields)) ≤ length fields →
-        length (map (field_tags documents) (if b then number ∷ tag_fields (suc number) fields else tag_fields (suc number) fields)) ≤ suc (length fields)
+    by : (b : Bool) → length (map (field_tags documents) (tag_numbers (suc number) fields)) ≤ length fields →
+        length (map (field_tags documents) (if b then number ∷ tag_numbers (suc number) fields else tag_numbers (suc number) fields)) ≤ suc (length fields)
     by true rest = omega (arith, rest)
     by false rest = omega (arith, rest)
 

@@ -1,11 +1,9 @@
 -- The tags of documents are one.
-use Rattle.std.proofs.Common.{◌≡◌, ℕ, suc, ◌≤◌, Bool, true, false, cond, leb, List, [], ◌∷◌, ◌++◌, length, map, refl, sym, ◌∙◌, ap, ap₂, subst, arith, inl, inr}
+use Rattle.std.proofs.Common.{◌≡◌, ℕ, ◌≤◌, true, leb, List, [], ◌∷◌, ◌++◌, length, map, refl, sym, ◌∙◌, ap, ap₂, subst, arith, inl, inr}
 use Rattle.std.specs.Prelude.{Contains}
 use Rattle.std.specs.List.{flat_map}
 use Rattle.std.proofs.lemmas.Bool.{le-leb, lt-leb}
 use Rattle.std.proofs.lemmas.List.Concat.{flat_map-append}
-use Rattle.doc_value.specs.declared.doc.Value.{Value}
-use Rattle.doc_value.specs.declared.doc.Value.TheVariants as values
 use Rattle.doc_value.specs.declared.facts.Tags.{Tags}
 use Rattle.doc_value.specs.declared.facts.Tags.TheVariants.{Many, Listed}
 use Rattle.doc_value.specs.declared.facts.FieldTags.{FieldTags}
@@ -15,9 +13,10 @@ use Rattle.term_dict.specs.Keys.{is_below}
 use Rattle.fast_fields.proofs.Below.{below_then, below_itself}
 use Rattle.split_bundle.specs.declared.placed.Placed.{Placed}
 use Rattle.split_bundle.specs.Splits.{AreRising}
-use Rattle.split_build.specs.Tags.{AreTags, AreTagsOf, tag_numbers, term_of as term_there, terms_in}
+use Rattle.split_bundle.specs.Tagged.{tag_numbers, value_term}
+use Rattle.split_build.specs.Tags.{AreTags, AreTagsOf, terms_in}
 use Rattle.split_form.specs.Sorted.{sorted}
-use Rattle.split_form.specs.Tagged.{field_tags, listed, tag_fields, tags_of, term_of, values_of}
+use Rattle.split_form.specs.Tagged.{field_tags, listed, tags_of, values_of}
 use Rattle.split_form.proofs.Rising.{here, first_or, none_in, all_in, in_sorted, sorted_one, sorted_rises, rest_in}
 
 -- ---- rising texts that are among others are no more
@@ -55,31 +54,12 @@ tags_one terms (Listed xs) h =
 
 -- ---- the terms of a field
 
-term_same : (v : Value) → term_there v ≡ term_of v
-term_same (values.Text t) = refl
-term_same (values.I64 z) = refl
-term_same (values.U64 n) = refl
-term_same (values.Bool b) = refl
-term_same (values.Datetime z) = refl
-
-terms_same : (vs : List Value) → flat_map term_there vs ≡ flat_map term_of vs
-terms_same [] = refl
-terms_same (v ∷ vs) = ap₂ (λ (a b : List (List ℕ)). a ++ b) (term_same v) (terms_same vs)
-
-terms_are : (number : ℕ) (ds : List Placed) → terms_in number ds ≡ flat_map term_of (values_of number ds)
+terms_are : (number : ℕ) (ds : List Placed) → terms_in number ds ≡ flat_map value_term (values_of number ds)
 terms_are number [] = refl
 terms_are number (d ∷ ds) =
-    ap₂ (λ (a b : List (List ℕ)). a ++ b) (terms_same (values_in d.doc number)) (terms_are number ds) ∙ sym (flat_map-append term_of (values_in d.doc number) (values_of number ds))
+    ap (λ (b : List (List ℕ)). flat_map value_term (values_in d.doc number) ++ b) (terms_are number ds) ∙ sym (flat_map-append value_term (values_in d.doc number) (values_of number ds))
 
 -- ---- the tag fields
-
-fields_same : (number : ℕ) (fs : List Field) → tag_numbers number fs ≡ tag_fields number fs
-fields_same number [] = refl
-fields_same number (f ∷ fs) = by f.tag (fields_same (suc number) fs)
-  where
-    by : (b : Bool) → tag_numbers (suc number) fs ≡ tag_fields (suc number) fs → cond b (number ∷ tag_numbers (suc number) fs) (tag_numbers (suc number) fs) ≡ cond b (number ∷ tag_fields (suc number) fs) (tag_fields (suc number) fs)
-    by true rest = ap (λ (l : List ℕ). number ∷ l) rest
-    by false rest = rest
 
 abbrev known : ℕ → Tags → FieldTags
 known number tags = record { number = number; tags = tags }
@@ -89,8 +69,8 @@ each_one ds [] [] h = refl
 each_one ds [] (t ∷ ts) h = absurd h
 each_one ds (n ∷ ns) [] h = absurd h
 each_one ds (n ∷ ns) (t ∷ ts) h =
-    let tags : t.tags ≡ listed (sorted (flat_map term_of (values_of n ds))) = tags_one (terms_in n ds) t.tags h.1 ∙ ap (λ (l : List (List ℕ)). listed (sorted l)) (terms_are n ds) in
+    let tags : t.tags ≡ listed (sorted (flat_map value_term (values_of n ds))) = tags_one (terms_in n ds) t.tags h.1 ∙ ap (λ (l : List (List ℕ)). listed (sorted l)) (terms_are n ds) in
     ap₂ (λ (x : FieldTags) (xs : List FieldTags). x ∷ xs) (ap₂ known h.0 tags) (each_one ds ns ts h.2)
 
 pub field_tags_one : (fs : List Field) (ds : List Placed) (ts : List FieldTags) → AreTagsOf ds (tag_numbers 0 fs) ts → ts ≡ tags_of fs ds
-field_tags_one fs ds ts h = each_one ds (tag_numbers 0 fs) ts h ∙ ap (λ (ns : List ℕ). map (field_tags ds) ns) (fields_same 0 fs)
+field_tags_one fs ds ts h = each_one ds (tag_numbers 0 fs) ts h

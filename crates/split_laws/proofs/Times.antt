@@ -6,13 +6,12 @@ use Rattle.std.specs.Int.{int_min, int_max}
 use Rattle.std.proofs.lemmas.Int.{ints, fold-int_min_bounds, fold-int_min_reached, fold-int_max_bounds, fold-int_max_reached}
 use Rattle.std.proofs.lemmas.List.Concat.{flat_map-append}
 use Rattle.std.proofs.lemmas.List.Elements.{All-from_recursion, All-cons, All-contains}
-use Rattle.doc_value.specs.declared.doc.Value.{Value}
-use Rattle.doc_value.specs.declared.doc.Value.TheVariants as values
 use Rattle.query_ast.specs.Meaning.{values_in}
 use Rattle.split_states.specs.declared.facts.Times.{Times}
 use Rattle.split_bundle.specs.declared.placed.Placed.{Placed}
-use Rattle.split_build.specs.Times.{AreTimes, second_of as second_there, seconds_in}
-use Rattle.split_form.specs.Tagged.{second_of, ends_of, times_of, values_of}
+use Rattle.split_bundle.specs.Tagged.{second_of}
+use Rattle.split_build.specs.Times.{AreTimes, seconds_in}
+use Rattle.split_form.specs.Tagged.{ends_of, times_of, values_of}
 use Rattle.split_form.proofs.Rising.{here, later}
 
 -- ---- the ends
@@ -63,21 +62,10 @@ ends_one (z ∷ zs) (Some t) h =
 
 -- ---- the seconds
 
-second_same : (v : Value) → second_there v ≡ second_of v
-second_same (values.Text t) = refl
-second_same (values.I64 z) = refl
-second_same (values.U64 n) = refl
-second_same (values.Bool b) = refl
-second_same (values.Datetime z) = refl
-
-seconds_same : (vs : List Value) → flat_map second_there vs ≡ flat_map second_of vs
-seconds_same [] = refl
-seconds_same (v ∷ vs) = ap₂ (λ (a b : List ℤ). a ++ b) (second_same v) (seconds_same vs)
-
 seconds_are : (number : ℕ) (ds : List Placed) → seconds_in (Some number) ds ≡ flat_map second_of (values_of number ds)
 seconds_are number [] = refl
 seconds_are number (d ∷ ds) =
-    ap₂ (λ (a b : List ℤ). a ++ b) (seconds_same (values_in d.doc number)) (seconds_are number ds) ∙ sym (flat_map-append second_of (values_in d.doc number) (values_of number ds))
+    ap (λ (b : List ℤ). flat_map second_of (values_in d.doc number) ++ b) (seconds_are number ds) ∙ sym (flat_map-append second_of (values_in d.doc number) (values_of number ds))
 
 pub times_one : (number : Option ℕ) (ds : List Placed) (t : Option Times) → AreTimes (seconds_in number ds) t → t ≡ times_of number ds
 times_one None ds t h = ends_one [] t h

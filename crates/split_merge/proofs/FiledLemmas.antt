@@ -16,7 +16,8 @@ use Rattle.split_build.specs.Builders.{IsBuilt}
 use Rattle.split_build.specs.Facts.{AreFacts}
 use Rattle.split_build.specs.Filed.{IsFileOf, begun_parts}
 use Rattle.split_build.specs.Limits.{AreWithin, most}
-use Rattle.split_build.specs.Tags.{AreTagsOf, tag_numbers}
+use Rattle.split_build.specs.Tags.{AreTagsOf}
+use Rattle.split_bundle.specs.Tagged.{tag_numbers}
 use Rattle.split_build.specs.Times.{AreTimes, seconds_in}
 use Rattle.split_build.specs.WrittenTerms.{AreTermParts}
 use Rattle.split_build.proofs.TakenLemmas.{body_weighs, weight_more}

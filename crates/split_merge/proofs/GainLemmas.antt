@@ -13,8 +13,9 @@ use Rattle.split_bundle.specs.Columns.{fast_fields}
 use Rattle.split_build.specs.declared.tags.TagLog.{TagLog}
 use Rattle.doc_value.specs.declared.schema.Schema.{Schema}
 use Rattle.split_build.specs.HeldTags.{HasTags, HasTerms, HasTermsOf}
-use Rattle.split_build.specs.Tags.{tag_numbers, term_of, terms_in}
-use Rattle.split_build.specs.Times.{AreTimes, second_of, seconds_in}
+use Rattle.split_build.specs.Tags.{terms_in}
+use Rattle.split_bundle.specs.Tagged.{tag_numbers, value_term, second_of}
+use Rattle.split_build.specs.Times.{AreTimes, seconds_in}
 use Rattle.split_build.proofs.TakenLemmas.{seconds_more, terms_more}
 use Rattle.split_merge.proofs.CellGains.{none_columns, same_columns}
 use Rattle.split_merge.specs.declared.facts.FieldFacts.{FieldFacts}
@@ -29,20 +30,20 @@ flat_one : {X : Type 0} (f : Value → List X) (vs : List Value) (v : Value) →
 flat_one f vs v = flat_more f vs (v ∷ []) ∙ ap (λ l. flat_map f vs ++ l) (append-nil (f v))
 
 module _ (number : ℕ) (v : Value) (ds : List Placed) (d e : Placed) (gains : Gains number v d.doc e.doc) where
-  pub terms_gain : terms_in number (ds ++ e ∷ []) ≡ terms_in number (ds ++ d ∷ []) ++ term_of v
+  pub terms_gain : terms_in number (ds ++ e ∷ []) ≡ terms_in number (ds ++ d ∷ []) ++ value_term v
   terms_gain =
-      terms_more number ds e ∙ ap (λ (vs : List Value). terms_in number ds ++ flat_map term_of vs) gains.here ∙ ap (λ (ts : List (List ℕ)). terms_in number ds ++ ts) (flat_one term_of (values_in d.doc number) v)
-      ∙ sym (append_assoc (terms_in number ds) (flat_map term_of (values_in d.doc number)) (term_of v)) ∙ ap (λ (ts : List (List ℕ)). ts ++ term_of v) (sym (terms_more number ds d))
+      terms_more number ds e ∙ ap (λ (vs : List Value). terms_in number ds ++ flat_map value_term vs) gains.here ∙ ap (λ (ts : List (List ℕ)). terms_in number ds ++ ts) (flat_one value_term (values_in d.doc number) v)
+      ∙ sym (append_assoc (terms_in number ds) (flat_map value_term (values_in d.doc number)) (value_term v)) ∙ ap (λ (ts : List (List ℕ)). ts ++ value_term v) (sym (terms_more number ds d))
 
   pub terms_stay : (n : ℕ) → (n ≡ number → ⊥) → terms_in n (ds ++ e ∷ []) ≡ terms_in n (ds ++ d ∷ [])
-  terms_stay n apart = terms_more n ds e ∙ ap (λ (vs : List Value). terms_in n ds ++ flat_map term_of vs) (gains.other n apart) ∙ sym (terms_more n ds d)
+  terms_stay n apart = terms_more n ds e ∙ ap (λ (vs : List Value). terms_in n ds ++ flat_map value_term vs) (gains.other n apart) ∙ sym (terms_more n ds d)
 
   seconds_gain : seconds_in (Some number) (ds ++ e ∷ []) ≡ seconds_in (Some number) (ds ++ d ∷ []) ++ second_of v
   seconds_gain =
       seconds_more number ds e ∙ ap (λ (vs : List Value). seconds_in (Some number) ds ++ flat_map second_of vs) gains.here ∙ ap (λ (ts : List ℤ). seconds_in (Some number) ds ++ ts) (flat_one second_of (values_in d.doc number) v)
       ∙ sym (append_assoc (seconds_in (Some number) ds) (flat_map second_of (values_in d.doc number)) (second_of v)) ∙ ap (λ (ts : List ℤ). ts ++ second_of v) (sym (seconds_more number ds d))
 
-  pub tag_gains : (n : ℕ) (old new : TagLog) → old.number ≡ number → new.number ≡ old.number → ((terms : List (List ℕ)) → HasTerms old.terms.items terms → HasTerms new.terms.items (terms ++ term_of v)) → HasTermsOf (ds ++ d ∷ []) n old → HasTermsOf (ds ++ e ∷ []) n new
+  pub tag_gains : (n : ℕ) (old new : TagLog) → old.number ≡ number → new.number ≡ old.number → ((terms : List (List ℕ)) → HasTerms old.terms.items terms → HasTerms new.terms.items (terms ++ value_term v)) → HasTermsOf (ds ++ d ∷ []) n old → HasTermsOf (ds ++ e ∷ []) n new
   tag_gains n old new own still more h = record {
     number_is = still ∙ h.number_is;
     terms =
@@ -102,7 +103,7 @@ module _ (ds : List Placed) (d e : Placed) (same : (n : ℕ) → values_in e.doc
   same_terms : (n : ℕ) (log : TagLog) → HasTermsOf (ds ++ d ∷ []) n log → HasTermsOf (ds ++ e ∷ []) n log
   same_terms n log h = record {
     number_is = h.number_is;
-    terms = subst (λ (ts : List (List ℕ)). HasTerms log.terms.items ts) (terms_more n ds d ∙ ap (λ (vs : List Value). terms_in n ds ++ flat_map term_of vs) (sym (same n)) ∙ sym (terms_more n ds e)) h.terms;
+    terms = subst (λ (ts : List (List ℕ)). HasTerms log.terms.items ts) (terms_more n ds d ∙ ap (λ (vs : List Value). terms_in n ds ++ flat_map value_term vs) (sym (same n)) ∙ sym (terms_more n ds e)) h.terms;
   }
 
   same_tags : (ns : List ℕ) (logs : List TagLog) → HasTags (ds ++ d ∷ []) ns logs → HasTags (ds ++ e ∷ []) ns logs
@@ -155,7 +156,7 @@ none_added f n s ds d more none h = record {
     terms : (n : ℕ) (log : TagLog) → HasTermsOf ds n log → HasTermsOf (ds ++ d ∷ []) n log
     terms n log k = record {
       number_is = k.number_is;
-      terms = subst (λ (ts : List (List ℕ)). HasTerms log.terms.items ts) (sym (terms_more n ds d ∙ ap (λ (vs : List Value). terms_in n ds ++ flat_map term_of vs) (empty n) ∙ append-nil (terms_in n ds))) k.terms;
+      terms = subst (λ (ts : List (List ℕ)). HasTerms log.terms.items ts) (sym (terms_more n ds d ∙ ap (λ (vs : List Value). terms_in n ds ++ flat_map value_term vs) (empty n) ∙ append-nil (terms_in n ds))) k.terms;
     }
 
     tags : (ns : List ℕ) (logs : List TagLog) → HasTags ds ns logs → HasTags (ds ++ d ∷ []) ns logs

@@ -8,7 +8,7 @@ use Rattle.split_bundle.specs.Columns.{FastField, column_rows, fast_fields}
 use Rattle.split_build.specs.declared.columns.ColumnLog.{ColumnLog}
 use Rattle.split_build.specs.HeldColumns.{HasCells, texts_of}
 use Rattle.split_build.specs.HeldTags.{HasTags}
-use Rattle.split_build.specs.Tags.{tag_numbers}
+use Rattle.split_bundle.specs.Tagged.{tag_numbers}
 use Rattle.split_build.specs.Times.{AreTimes, seconds_in}
 use Rattle.split_merge.specs.declared.facts.FieldFacts.{FieldFacts}
 

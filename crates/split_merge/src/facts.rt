@@ -7,8 +7,8 @@ ghost use Rattle.doc_value.specs.Documents.{IsSchema};
 ghost use Rattle.doc_value.specs.Terms.{term_bytes};
 ghost use Rattle.split_bundle.specs.declared.placed.Placed.{Placed};
 ghost use Rattle.split_build.specs.HeldTags.{HasTags, HasTerms};
-ghost use Rattle.split_build.specs.Tags.{term_of};
-ghost use Rattle.split_build.specs.Times.{AreEnds, AreTimes, second_of, seconds_in};
+ghost use Rattle.split_bundle.specs.Tagged.{value_term, second_of};
+ghost use Rattle.split_build.specs.Times.{AreEnds, AreTimes, seconds_in};
 ghost use Rattle.split_merge.specs.Lent.{Gains, value_of};
 
 use crate::cells::add_column;
@@ -36,7 +36,7 @@ fn add_plain(alloc: Global, log: &mut TagLog, value: &Value) -> Result<(), Alloc
 // Adds the term of a value, if it has one.
 fn add_value(alloc: Global, log: &mut TagLog, value: LentValue<'_>) -> Result<(), AllocError>
     ensures number { log.new.number ≡ log.old.number }
-    ensures terms { (terms : List (List ℕ)) → HasTerms log.old.terms.items terms → OnOk result (HasTerms log.new.terms.items (terms ++ term_of (value_of value.entry))) }
+    ensures terms { (terms : List (List ℕ)) → HasTerms log.old.terms.items terms → OnOk result (HasTerms log.new.terms.items (terms ++ value_term (value_of value.entry))) }
 {
     if log.terms.len() > MAX_TAGS {
         return Ok(());

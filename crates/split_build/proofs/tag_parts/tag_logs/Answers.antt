@@ -4,7 +4,7 @@ use Rattle.std.proofs.lemmas.List.{append-nil}
 use Rattle.doc_value.specs.declared.schema.Field.{Field}
 use Rattle.split_build.specs.declared.tags.TagLog.{TagLog}
 use Rattle.split_build.specs.HeldTags.{HasTags, HasTermsOf}
-use Rattle.split_build.specs.Tags.{tag_numbers}
+use Rattle.split_bundle.specs.Tagged.{tag_numbers}
 use Rattle.split_build.proofs.OnWay.{IsOnWay, go_on}
 use Rattle.split_build.proofs.Zipped.{zip_push}
 use Rattle.split_build.proofs.TagLemmas.{tag_yes, tag_no}

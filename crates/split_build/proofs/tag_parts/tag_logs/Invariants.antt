@@ -1,6 +1,6 @@
 use Rattle.std.proofs.Common.{◌≡◌, ◌+◌, ℕ, [], length}
 use Rattle.split_build.specs.HeldTags.{HasTags}
-use Rattle.split_build.specs.Tags.{tag_numbers}
+use Rattle.split_bundle.specs.Tagged.{tag_numbers}
 use Rattle.split_build.proofs.OnWay.{IsOnWay}
 use Rattle.split_build.proofs.tag_parts.tag_logs.Given as goal
 

@@ -2,7 +2,8 @@ use Rattle.std.proofs.Common.{ℤ, List, ap, ◌++◌}
 use Rattle.std.specs.List.{flat_map}
 use Rattle.std.proofs.lemmas.List.{nil_from_length}
 use Rattle.doc_value.specs.declared.doc.Value.{Value}
-use Rattle.split_build.specs.Times.{AreTimes, second_of}
+use Rattle.split_build.specs.Times.{AreTimes}
+use Rattle.split_bundle.specs.Tagged.{second_of}
 use Rattle.split_build.proofs.OnWay.{go_on, arrive}
 use Rattle.split_build.proofs.times.widened_by.Goals as goal
 

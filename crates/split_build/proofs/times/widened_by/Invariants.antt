@@ -1,6 +1,7 @@
 use Rattle.std.proofs.Common.{ℤ, List, length, ◌++◌}
 use Rattle.std.specs.List.{flat_map}
-use Rattle.split_build.specs.Times.{AreTimes, second_of}
+use Rattle.split_build.specs.Times.{AreTimes}
+use Rattle.split_bundle.specs.Tagged.{second_of}
 use Rattle.split_build.proofs.OnWay.{IsOnWay}
 use Rattle.split_build.proofs.times.widened_by.Given as goal
 

@@ -2,7 +2,8 @@ use Rattle.std.proofs.Common.{◌≡◌, ◌∷◌, [], ◌++◌, ◌∙◌, ℤ
 use Rattle.std.proofs.lemmas.Int.{ints}
 use Rattle.std.proofs.lemmas.List.{append-nil}
 use Rattle.doc_value.specs.declared.doc.Value.{Value}
-use Rattle.split_build.specs.Times.{AreEnds, AreTimes, second_of}
+use Rattle.split_build.specs.Times.{AreEnds, AreTimes}
+use Rattle.split_bundle.specs.Tagged.{second_of}
 use Rattle.split_build.proofs.TimesLemmas.{no_second}
 use Rattle.split_build.proofs.times.widened_with.Goals as goal
 

@@ -1,6 +1,7 @@
 use Rattle.std.proofs.Common.{◌≡◌, ◌∷◌, [], ◌++◌, ℤ, sym, subst, arith, w64, to_z, of_z, SFits, rules}
 use Rattle.std.proofs.lemmas.Int.{ints}
-use Rattle.split_build.specs.Times.{AreEnds, second_of}
+use Rattle.split_build.specs.Times.{AreEnds}
+use Rattle.split_bundle.specs.Tagged.{second_of}
 use Rattle.split_merge.specs.declared.lent.LentValue.{LentValue}
 use Rattle.split_merge.specs.Lent.{value_of}
 use Rattle.split_merge.proofs.facts.widened_with.Goals as goal

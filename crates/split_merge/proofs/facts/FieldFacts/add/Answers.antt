@@ -1,7 +1,7 @@
 use Rattle.std.proofs.Common.{◌≡◌, ◌++◌, ◌∷◌, [], ℕ, length, length-append, sym, subst, arith}
 use Rattle.std.specs.Prelude.{Option}
 use Rattle.split_bundle.specs.Columns.{fast_fields}
-use Rattle.split_build.specs.Tags.{tag_numbers}
+use Rattle.split_bundle.specs.Tagged.{tag_numbers}
 use Rattle.split_build.specs.Times.{AreTimes, seconds_in}
 use Rattle.split_merge.proofs.facts.FieldFacts.add.Goals as goal
 

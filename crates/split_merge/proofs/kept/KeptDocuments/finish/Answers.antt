@@ -2,7 +2,7 @@ use Rattle.std.proofs.Common.{◌∙◌, ◌<◌, ◌^◌, List, ℕ, ap, refl, 
 use Rattle.sha2.specs.Sha256.{sha256}
 use Rattle.split_bundle.specs.Documents.{documents_section}
 use Rattle.split_build.specs.declared.term_parts.TermParts.{TermParts}
-use Rattle.split_build.specs.Tags.{tag_numbers}
+use Rattle.split_bundle.specs.Tagged.{tag_numbers}
 use Rattle.split_build.specs.WrittenTerms.{AreTermParts}
 use Rattle.split_merge.proofs.FiledLemmas.{are_facts, holds_documents, is_built, length-so_many, so_many, to_write}
 use Rattle.split_merge.proofs.kept.KeptDocuments.finish.Goals as goal
