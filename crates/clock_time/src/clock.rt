@@ -2,6 +2,12 @@ ghost use Rattle.std.specs.Prelude.{◌≡◌, ◌<◌, ◌^◌, IfSome, IsSome}
 
 use std::marker::Model;
 
+/// Each moment is below it.
+pub const MOMENT_END: u64 = 1 << 62;
+
+/// The greatest moment that there is.
+pub const LAST_MOMENT: u64 = (1 << 62) - 1;
+
 /// A clock, which gives moments in whole seconds. It tells the moment that its next `now` gives, if contracts know it.
 /// It never fails and takes no memory.
 pub trait Clock: Drop {

@@ -27,15 +27,12 @@ use crate::doom_list::Doomed;
 use crate::life::Life;
 use crate::marking::{Marking, reserve};
 use crate::world_error::WorldError;
-use meta_journal::{Entry, Journal, JournalError, meta_key};
+use clock_time::LAST_MOMENT;
+use meta_journal::{Entry, Journal, JournalError, MAX_ENTRIES, meta_key};
 use meta_store::{Meta, Reading};
 use object_store::{CreateError, GetError, Key, ListError, ObjectStore};
 use std::alloc::{AllocError, Global};
 use std::mem;
-
-const MAX_ENTRIES: u64 = 10_000_000;
-
-const LAST_MOMENT: u64 = (1 << 62) - 1;
 
 /// What the journal's error is to the world. `before` is the store's count at the start of the world's call.
 pub fn world_error(error: JournalError, number: u64, before: u64) -> WorldError

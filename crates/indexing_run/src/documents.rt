@@ -18,7 +18,7 @@ use std::alloc::{AllocError, Global};
 use std::mem;
 
 /// Documents of a greater weight take no further one.
-const MAX_WEIGHT: u64 = 134_217_728;
+const CLOSING_WEIGHT: u64 = 134_217_728;
 
 /// The documents that a mapping accepts, as what builds their split has taken them.
 #[derive(Drop)]
@@ -75,7 +75,7 @@ impl Documents {
     pub fn are_heavy(&self) -> bool
         ensures { result ≡ nat_lt 134217728 self.now.builder.weight }
     {
-        self.builder.weight > MAX_WEIGHT
+        self.builder.weight > CLOSING_WEIGHT
     }
 
     // Adds a document that is no heavier than all may be before it.

@@ -8,10 +8,9 @@ ghost use Rattle.merge_policy.specs.Walk.{rows_of, LevelsRise, IsWalked};
 
 use crate::candidate::Candidate;
 use index_config::Policy;
+use split_states::MAX_WEIGHT;
 
 const MAX_DOCS: u64 = 16_777_216;
-
-const MAX_WEIGHT: u64 = 268_435_456;
 
 fn merge_factor(policy: &Policy) -> u64
     ensures { result ≡ factor_of policy.now }

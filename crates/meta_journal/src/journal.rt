@@ -8,6 +8,7 @@ ghost use Rattle.meta_journal.specs.Loading.{Loads, IsOfLoad, loaded};
 ghost use Rattle.meta_journal.specs.declared.place.Place.TheVariants.{Sure, Given};
 ghost use Rattle.meta_journal.specs.declared.journal_error.JournalError.TheVariants.{Full};
 
+use crate::keys::MAX_ENTRIES;
 use crate::loading::load_entries;
 use crate::place::{place_appended, place_read};
 use crate::trying::{append_at, settle_at};
@@ -15,8 +16,6 @@ use crate::{Entries, Entry, JournalError, Place};
 use object_store::ObjectStore;
 use std::alloc::Global;
 use std::marker::Model;
-
-const MAX_ENTRIES: u64 = 10_000_000;
 
 /// How many entries were taken in, and what is known of the number behind them.
 #[derive(Drop)]

@@ -5,6 +5,9 @@ ghost use Rattle.meta_journal.specs.Places.{digits, meta_key, meta_prefix, split
 
 use object_store::Key;
 
+/// The number of each entry is below it.
+pub const MAX_ENTRIES: u64 = 10_000_000;
+
 // A number in 20 digits.
 fn twenty_digits(number: u64) -> [u8; 20]
     ensures { result ≡ digits 20 number }

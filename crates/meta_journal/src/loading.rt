@@ -5,14 +5,12 @@ ghost use Rattle.object_store.specs.Store.{WhereTold};
 ghost use Rattle.meta_journal.specs.Journal.{FaultIs, max_entries};
 ghost use Rattle.meta_journal.specs.Loading.{LoadsEntries, IsOfLoad, IsJudged, LooksBehind, page_behind, Pages, IsPage, Counts, ReadsAll, last_key};
 
-use crate::keys::meta_prefix;
+use crate::keys::{MAX_ENTRIES, meta_prefix};
 use crate::objects::{read_entry, stands};
 use crate::{Entries, JournalError, meta_key};
 use object_store::{Key, ListError, ObjectStore};
 use std::alloc::Global;
 use std::cmp::Ordering;
-
-const MAX_ENTRIES: u64 = 10_000_000;
 
 const PAGE: u32 = 1_000;
 

@@ -10,10 +10,9 @@ use crate::fields::{
 };
 use crate::{Act, Entry, EntryError};
 use byte_fields::{Bytes, FieldError, take_bytes, take_varint};
+use clock_time::MOMENT_END;
 use std::alloc::Global;
 use std::mem;
-
-const MOMENT_END: u64 = 1 << 62;
 
 /// What kind of entry it is.
 #[derive(Clone, Copy)]

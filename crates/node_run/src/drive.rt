@@ -35,7 +35,7 @@ use crate::logs::Logs;
 use crate::name::Name;
 use crate::out_line::OutLine;
 use byte_fields::{Client, Text};
-use clock_time::ScriptClock;
+use clock_time::{MOMENT_END, ScriptClock};
 use index_world::{Direct, World, WorldError};
 use indexing_run::{Indexer, IndexerOutcome};
 use object_store::ObjectStore;
@@ -50,8 +50,6 @@ use upkeep_run::{DeleteWorker, Merger, UpkeepOutcome};
 
 /// How many clients an input may name.
 pub const MAX_CLIENTS: u64 = 10_000;
-
-const MOMENT_END: u64 = 1 << 62;
 
 /// A node: a world, one indexer for each log, a merger, a delete worker, a collector, and one searcher for each client
 /// that a line named.

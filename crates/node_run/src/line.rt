@@ -10,13 +10,12 @@ ghost use Rattle.node_run.specs.Seen.{IsBadWhere, IsRead};
 
 use crate::pieces::{behind, first_word, number_in};
 use byte_fields::{Client, Text};
+use clock_time::MOMENT_END;
 use source_checkpoint::Partition;
 use source_log::Partitions;
 use std::alloc::{AllocError, Global};
 use std::str;
 use thiserror::Error;
-
-const MOMENT_END: u64 = 1 << 62;
 
 const MAX_PARTITIONS: usize = 64;
 

@@ -8,7 +8,7 @@ use crate::failing_store::FailingStore;
 use crate::plain::Plain;
 use crate::shown::Shown;
 use crate::wrong::Wrong;
-use clock_time::ScriptClock;
+use clock_time::{MOMENT_END, ScriptClock};
 use index_world::{Unopened, World, WorldError};
 use meta_journal::{Entries, decode_entry, meta_key};
 use node_run::{Accepts, DriveNode, LineError, Unstarted, read_line};
@@ -29,9 +29,6 @@ const LINES: u64 = 120;
 
 /// How many lines a life without failing calls has at most.
 const MOST_LINES: u64 = 2_000;
-
-/// A clock tells moments below this one.
-const MOMENT_END: u64 = 1 << 62;
 
 /// No journal of a schedule has more entries.
 const MOST_ENTRIES: u64 = 10_000;

@@ -2,11 +2,8 @@
 
 ghost use Rattle.std.specs.Prelude.{◌<◌, ◌^◌, None};
 
-use clock_time::Clock;
+use clock_time::{Clock, LAST_MOMENT};
 use std::time::{self, SystemTime, UNIX_EPOCH};
-
-/// The greatest moment that an entry can have.
-const LAST_MOMENT: u64 = (1 << 62) - 1;
 
 /// The seconds since 1970 by the system. Where the system doesn't tell them, or stands before 1970, it gives the moment that
 /// it gave last, from 0. It tells contracts nothing.

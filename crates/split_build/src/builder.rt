@@ -19,11 +19,11 @@ use crate::tag_parts::{add_tags, tag_facts, tag_logs};
 use crate::tags::TagLog;
 use crate::terms::TermLog;
 use crate::times::widened_by;
-use crate::weights::{MAX_WEIGHT, WEIGHT_BESIDE};
+use crate::weights::WEIGHT_BESIDE;
 use doc_value::{Bytes, Replica, Schema};
 use sha2::{Digest, Sha256};
 use split_bundle::Placed;
-use split_states::{RowFacts, Times};
+use split_states::{MAX_WEIGHT, RowFacts, Times};
 use std::alloc::{AllocError, Global};
 
 /// A split file and its facts.

@@ -20,13 +20,10 @@ use crate::terms::TermLog;
 use doc_value::{DocField, Field, Schema, Tokenizer, Value, turned};
 use query_ast::tokens_of;
 use std::alloc::{AllocError, Global};
-use text_tokens::Token;
+use text_tokens::{MAX_TOKEN, Token};
 
 // The number of a field takes so many bytes of a key.
 const PREFIX: usize = 2;
-
-// A longer word has no token.
-const MAX_TOKEN: usize = 255;
 
 // A value's place among those of its field, and the position of a token in it.
 fn place_of(value: usize, position: usize) -> u64

@@ -9,12 +9,10 @@ ghost use Rattle.split_bundle.specs.Tagged.{value_term};
 use doc_value::{Bytes, FieldTags, Tags, Terms, Value, term_bytes};
 use std::alloc::{AllocError, Global};
 use std::cmp::Ordering;
+use text_tokens::MAX_TOKEN;
 
 // So many distinct terms are listed of a field.
 const MAX_TAGS: usize = 100;
-
-// A longer text has no term.
-const MAX_TOKEN: usize = 255;
 
 // Where a term belongs among rising ones, or none where it stands there.
 fn place_for(terms: &[Bytes], term: &[u8]) -> Option<usize>

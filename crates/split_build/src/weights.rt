@@ -8,9 +8,6 @@ use crate::bodies::put_body;
 use split_bundle::Placed;
 use std::alloc::{AllocError, Global};
 
-/// The documents of a split weigh at most so much together.
-pub(crate) const MAX_WEIGHT: u64 = 268_435_456;
-
 /// What a document weighs beside its bytes: one for the place of its partition, and 256.
 pub(crate) const WEIGHT_BESIDE: u64 = 257;
 

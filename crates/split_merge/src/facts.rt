@@ -17,12 +17,10 @@ use doc_value::{Schema, Value, term_bytes};
 use split_build::{ColumnLog, TagLog, column_logs, tag_logs};
 use split_states::Times;
 use std::alloc::{AllocError, Global};
+use text_tokens::MAX_TOKEN;
 
 // So many distinct terms are listed of a field.
 const MAX_TAGS: usize = 100;
-
-// A longer text has no term.
-const MAX_TOKEN: usize = 255;
 
 // Adds the term of a value that is no text.
 fn add_plain(alloc: Global, log: &mut TagLog, value: &Value) -> Result<(), AllocError>

@@ -19,13 +19,11 @@ use crate::terms::join_terms;
 use doc_value::Schema;
 use split_build::{BuildError, BuiltSplit};
 use split_bundle::SplitView;
+use split_states::MAX_WEIGHT;
 use std::alloc::Global;
 
 // A split has at most so many documents.
 const MAX_DOCUMENTS: u32 = 16_777_216;
-
-// The documents of a split weigh at most so much together.
-const MAX_WEIGHT: u64 = 268_435_456;
 
 // What a refusal of the builder is to the merge.
 fn refusal_of(refusal: BuildError) -> MergeError

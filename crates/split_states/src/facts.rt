@@ -5,6 +5,9 @@ ghost use Rattle.std.specs.Prelude.{◌≡◌, IfOk};
 use doc_value::{Replica, TagFacts};
 use std::alloc::{AllocError, Global};
 
+/// The documents of a split weigh at most so much together.
+pub const MAX_WEIGHT: u64 = 268_435_456;
+
 /// The least and the greatest second of some documents.
 #[derive(Clone, Copy, Drop)]
 pub struct Times {

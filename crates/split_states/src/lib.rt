@@ -10,7 +10,7 @@ pub mod rows;
 mod stamps;
 
 pub use answers::{may_mark, may_publish, may_raise, may_remove, may_replace, may_retire};
-pub use facts::{RowFacts, Times};
+pub use facts::{MAX_WEIGHT, RowFacts, Times};
 pub use numbers::Numbers;
 pub use refusal::StateRefusal;
 pub use rows::{Row, RowState, Rows};

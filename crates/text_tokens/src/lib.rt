@@ -7,4 +7,4 @@ pub mod token_text;
 pub mod tokens;
 
 pub use token_text::TokenText;
-pub use tokens::{Token, Tokens, default_tokens, raw_tokens, whitespace_tokens};
+pub use tokens::{MAX_TOKEN, Token, Tokens, default_tokens, raw_tokens, whitespace_tokens};
