@@ -1,11 +1,15 @@
-ghost use Rattle.std.specs.Prelude.{◌≡◌, ◌≤◌, ◌↔◌, length, IsTrue, IfSome, IfNone};
+ghost use Rattle.std.specs.Prelude.{◌≡◌, ◌≤◌, ◌↔◌, length, IsTrue, IfSome, IfNone, Some, nat_eq, refl};
+ghost use Rattle.std.specs.Ordering.{nat_cmp};
+ghost use Rattle.std.specs.Cmp.{partial_equiv_from_equiv};
+ghost use Rattle.std.specs.Cmp.Lexicographic.{pointwise, slice_cmp, nat_list_eq_equiv, nat_list_cmp_total, texts_po, texts_ties};
 ghost use Rattle.byte_fields.specs.ClientName.{IsClientName, is_name_byte};
 
+use std::cmp::Ordering;
 use std::marker::Model;
 
 const CLIENT_SIZE: usize = 32;
 
-/// A client's name: 1 to 32 bytes of letters, digits, `_` and `-`.
+/// A client's name: 1 to 32 bytes of letters, digits, `_` and `-`. Names are in the order of their bytes.
 pub struct Client {
     bytes: [u8; 32],
     len: usize,
@@ -40,6 +44,44 @@ impl Clone for Client {
 }
 
 impl Copy for Client {}
+
+impl PartialEq for Client {
+    ghost eq = { pointwise nat_eq };
+
+    ghost laws = { partial_equiv_from_equiv nat_list_eq_equiv };
+
+    fn eq(&self, other: &Client) -> bool {
+        self.as_bytes() == other.as_bytes()
+    }
+}
+
+impl Eq for Client {
+    ghost laws = { nat_list_eq_equiv };
+}
+
+impl PartialOrd for Client {
+    ghost partial_cmp = { λ x y. Some (slice_cmp nat_cmp x y) };
+
+    ghost laws = { texts_po };
+
+    fn partial_cmp(&self, other: &Client) -> Option<Ordering> {
+        Some(self.cmp(other))
+    }
+}
+
+impl Ord for Client {
+    ghost cmp = { slice_cmp nat_cmp };
+
+    ghost total = { nat_list_cmp_total };
+
+    ghost matches_partial_cmp = { λ x y. refl };
+
+    ghost matches_eq = { texts_ties };
+
+    fn cmp(&self, other: &Client) -> Ordering {
+        self.as_bytes().cmp(other.as_bytes())
+    }
+}
 
 fn is_name_byte(byte: u8) -> bool
     ensures { result ≡ is_name_byte byte }

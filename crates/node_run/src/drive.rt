@@ -32,7 +32,6 @@ ghost use Rattle.node_run.specs.Turns.{made_idle, quiet, stopped};
 
 use crate::line::Line;
 use crate::logs::Logs;
-use crate::name::Name;
 use crate::out_line::OutLine;
 use byte_fields::{Client, Text};
 use clock_time::{MOMENT_END, ScriptClock};
@@ -61,7 +60,7 @@ pub struct DriveNode<S: ObjectStore, L: SourceLog> {
     collector: Collector,
     clients: Vec<Searcher>,
     // The place of each client among the searchers.
-    places: BTreeMap<Name, usize>,
+    places: BTreeMap<Client, usize>,
     // What the clock tells.
     moment: u64,
     // The last restart of the node failed.
@@ -181,12 +180,12 @@ fn assign<L: SourceLog>(indexer: &mut Indexer<L>, partitions: Partitions) -> Opt
 }
 
 // The place of a client's searcher, where the client was named before.
-fn place_of(clients: &[Searcher], places: &BTreeMap<Name, usize>, client: &Client) -> Option<usize>
+fn place_of(clients: &[Searcher], places: &BTreeMap<Client, usize>, client: &Client) -> Option<usize>
     ensures within { IfSome result (λ place. place < length clients.now) }
     ensures exact { (names : List (List ℕ)) → length names ≡ length clients.now → HasPlaces places.now.entries names →
         result ≡ place_in client.now names }
 {
-    match places.get(&Name::of(client)) {
+    match places.get(client) {
         Some(place) if *place < clients.len() => Some(*place),
         _ => None,
     }
@@ -195,7 +194,7 @@ fn place_of(clients: &[Searcher], places: &BTreeMap<Name, usize>, client: &Clien
 // The place of a client's searcher, which begins where the client wasn't named yet.
 fn known(
     clients: &mut Vec<Searcher>,
-    places: &mut BTreeMap<Name, usize>,
+    places: &mut BTreeMap<Client, usize>,
     client: &Client,
 ) -> Result<usize, AllocError>
     ensures bound { IfOk result (λ place. place < vec_len clients.new) }
@@ -212,7 +211,7 @@ fn known(
         None => {
             let place = clients.len();
             clients.reserve(1)?;
-            places.insert(Name::of(client), place)?;
+            places.insert(*client, place)?;
             match clients.push(Searcher::start(*client)) {
                 Ok(()) => Ok(place),
                 Err(_) => unreachable!(),

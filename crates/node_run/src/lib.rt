@@ -5,7 +5,6 @@ mod drive;
 pub mod laws;
 mod line;
 mod logs;
-mod name;
 mod out_line;
 mod pieces;
 

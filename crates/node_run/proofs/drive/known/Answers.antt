@@ -40,10 +40,7 @@ returns-in-Ok-clause-known c = λ models core log z has.
     let with = ap (λ m. with_client m models) (unknown_fresh core log name old models unknown z) ∙ unknown_with core log name (fresh_client name) old models refl unknown z in
     let items = c.in-Ok.ensures.items ∙ ap (λ (ss : List Searcher). ss ++ c.start.result ∷ []) c.reserve.ensures.items in
     let named = (c.start.ensures some_core []).name in
-    let put = subst
-    (λ (n : List ℕ). (q : List ℕ) → lookup (is_at (slice_cmp nat_cmp q)) c.insert.new.self.entries
-    ≡ cond (is_at (slice_cmp nat_cmp n) q) (Some c.len-place.result) (lookup (is_at (slice_cmp nat_cmp q)) c.args.places.now.entries))
-    c.of.ensures c.in_ok-insert-in-None.ensures.updates.0 in
+    let put = c.in_ok-insert-in-None.ensures.updates.0 in
     let last : c.len-place.result ≡ length old = let l = c.len-place.ensures in omega (arith, c.args.clients.now.ok.0) in
     let last_name : c.len-place.result ≡ length (names_of models) = last ∙ sym (ap length c.as_slice.ensures.value) ∙ sym same in
     record {
