@@ -9,7 +9,7 @@ use Rattle.byte_fields.specs.Spelling.{four}
 use Rattle.fast_fields.specs.Columns.{documents_bytes}
 use Rattle.fast_fields.specs.declared.column.Column.{Column}
 use Rattle.fast_fields.specs.declared.entries.Entry.{Entry}
-use Rattle.fast_fields.specs.Lookups.{IsBetween, IsNext, document_of}
+use Rattle.fast_fields.specs.Lookups.{IsBetween, document_of}
 use Rattle.fast_fields.specs.Readers.{Holds, count_below}
 use Rattle.fast_fields.proofs.Places.{all_at, count_down, count_none, count_one, count_up, count_within, document_there, get_some}
 
@@ -42,21 +42,3 @@ down_to c texts es document place h behind = elim (cases_lt place c.count) [
 
 pub between_counts : (c : Column) (texts : List (List ℕ)) (es : List Entry) (document low high : ℕ) → Holds c texts es → IsBetween c document low high → (low ≤ count_below document es) × (count_below document es ≤ high)
 between_counts c texts es document low high h b = (up_to c texts es document low h (omega (arith, b.order, b.within)) b.before, down_to c texts es document high h b.behind)
-
-count_more : (low high : ℕ) (es : List Entry) → low ≤ high → count_below low es ≤ count_below high es
-count_more low high [] le = omega arith
-count_more low high (x ∷ xs) le = elim (cases_lt x.document low) [
-  | inl lt ↦ omega (arith, count_one low x xs lt, count_one high x xs (omega arith), count_more low high xs le)
-  | inr up ↦ elim (cases_lt x.document high) [
-    | inl below ↦ omega (arith, count_none low x xs up, count_one high x xs below, count_more low high xs le)
-    | inr above ↦ omega (arith, count_none low x xs up, count_none high x xs above, count_more low high xs le)
-  ]
-]
-
-pub next_counts : (c : Column) (texts : List (List ℕ)) (es : List Entry) (passed document from place : ℕ) → Holds c texts es → passed ≤ document → from ≡ count_below passed es → IsNext c document from place → place ≡ count_below document es
-next_counts c texts es passed document from place h le is n =
-    let down = down_to c texts es document place h n.behind in
-    elim (cases_lt from place) [
-      | inl moved ↦ omega (arith, down, up_to c texts es document place h n.within (λ some. n.passed (place - 1) (omega arith) (omega arith)))
-      | inr stays ↦ omega (arith, down, n.order, is, count_more passed document es le)
-    ]

@@ -12,4 +12,3 @@ pub mod Numbers
 pub mod Packing
 pub mod Below
 pub mod Bounds
-pub mod Walked

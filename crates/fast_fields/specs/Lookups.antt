@@ -32,23 +32,9 @@ pub record IsBetween (c : Column) (document low high : ℕ) : Type 0 where
   pub before : 0 < low → document_of c (low - 1) < document
   pub behind : high < c.count → document ≤ document_of c high
 
--- the first place from one on whose document is not below this one
-pub record IsNext (c : Column) (document from place : ℕ) : Type 0 where
-  pub order : from ≤ place
-  pub within : place ≤ c.count
-  pub passed : (k : ℕ) → from ≤ k → k < place → document_of c k < document
-  pub behind : place < c.count → document ≤ document_of c place
-
 -- the value at a place, if it is of this document
 abbrev pub value_there : Column → ℕ → ℕ → Option ℕ
 value_there c document place = if nat_lt place c.count && (document_of c place == document) then Some (value_of c place) else None
-
--- the place behind so many byte strings
-unfoldable pub place_behind : ℕ → List ℕ → ℕ → Result ℕ FieldError
-place_behind zero bytes at = Ok at
-place_behind (suc more) bytes at = do
-  passed ← bytes_at bytes at
-  place_behind more bytes passed.1
 
 -- the text behind so many byte strings
 unfoldable pub text_behind : ℕ → List ℕ → ℕ → Result (List ℕ × ℕ) FieldError

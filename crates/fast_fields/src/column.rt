@@ -126,14 +126,6 @@ impl<'a> Column<'a> {
         u32::from_le_bytes([piece[0], piece[1], piece[2], piece[3]])
     }
 
-    /// How many distinct texts there are.
-    pub fn text_count(&self) -> u64
-        ensures only { (texts : List (List ℕ)) (entries : List Entry) → Holds self.now texts entries → result ≡ length texts }
-        ensures exact { result ≡ self.now.text_count }
-    {
-        self.text_count
-    }
-
     /// The text with an ordinal, if there is one.
     pub fn text(&self, ordinal: u64) -> Option<&'a str>
         ensures only { (texts : List (List ℕ)) (entries : List Entry) → Holds self.now texts entries → LendsText result (slice_get texts ordinal) }

@@ -4,16 +4,12 @@
 mod column;
 mod encode;
 mod entries;
-mod in_step;
 mod packed;
 mod rows;
-mod text_walk;
 mod texts;
 
 pub use column::Column;
 pub use encode::{encode_column, put_column};
 pub use entries::{Entry, turned};
-pub use in_step::InStep;
 pub use rows::{ColumnList, ColumnRow};
-pub use text_walk::TextWalk;
 pub use texts::{distinct, ordinal};

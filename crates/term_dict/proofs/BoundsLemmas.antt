@@ -123,22 +123,6 @@ behind_unwanted bytes index terms wanted test end d shuts front =
       | inr le ↦ nil_unwanted wanted (drop (64 * end) terms) (drop_all (64 * end) terms (omega (arith, d.index_is.count)))
     ]
 
-and_false : (a b : Bool) → b ≡ false → (a && b) ≡ false
-and_false true b e = e
-and_false false b e = refl
-
-high_cases : (high first k : List ℕ) (b : Bool) → is_below k high ≡ b → is_below first high ≡ false → is_below first k ≡ true → b ≡ false
-high_cases high first k false e fails above = refl
-high_cases high first k true e fails above =
-    let low : is_below first high ≡ true = below_then first k high above e in
-    absurd cc
-
-pub between_shuts : (low high : List ℕ) → Shuts (λ k. not (is_below k low) && is_below k high) (λ first. is_below first high)
-between_shuts low high = record {
-  here = λ first fails. and_false (not (is_below first low)) (is_below first high) fails;
-  behind = λ first k fails above. and_false (not (is_below k low)) (is_below k high) (high_cases high first k (is_below k high) refl fails above);
-}
-
 or_left : (a b : Bool) → (a || b) ≡ false → a ≡ false
 or_left false b e = refl
 or_left true b e = absurd cc

@@ -9,14 +9,13 @@ use Rattle.term_dict.specs.declared.term.Term.{Term}
 use Rattle.term_dict.specs.declared.term.TermInfo.{TermInfo}
 use Rattle.term_dict.specs.declared.index.BlockStart.{BlockStart}
 use Rattle.term_dict.specs.declared.index.Edge.{Edge}
-use Rattle.term_dict.specs.declared.index.Edge.TheVariants.{UpTo, Below, Prefix}
+use Rattle.term_dict.specs.declared.index.Edge.TheVariants.{UpTo, Prefix}
 
 -- ---- by the index alone
 
 -- which first keys stand in front of an edge
 abbrev pub is_in_front : Edge → List ℕ → Bool
 is_in_front (UpTo key) first = not (is_below key.now first)
-is_in_front (Below high) first = is_below first high.now
 is_in_front (Prefix prefix) first = is_below first prefix.now || starts_with nat_eq first prefix.now
 
 -- so many blocks stand in front: a test holds of the first key of the last of them, and not of that of the block behind them

@@ -1,4 +1,4 @@
-ghost use Rattle.std.specs.Prelude.{◌≡◌, ◌<◌, ◌≤◌, ◌+◌, ◌*◌, ◌-◌, take, ◌&&◌, ◌||◌, List, ℕ, length, filter, not, nat_eq, IfSome, IsOkAnd};
+ghost use Rattle.std.specs.Prelude.{◌≡◌, ◌<◌, ◌≤◌, ◌+◌, ◌*◌, ◌-◌, take, ◌||◌, List, ℕ, length, filter, nat_eq, IfSome, IsOkAnd};
 ghost use Rattle.std.specs.List.{starts_with};
 ghost use Rattle.term_dict.specs.Keys.{is_below};
 ghost use Rattle.term_dict.specs.Terms.{IsDict, area, lookup};
@@ -22,19 +22,6 @@ impl BlockIndex {
     {
         let count = self.count_up_to(key);
         if count == 0 { None } else { Some(count - 1) }
-    }
-
-    /// The numbers of the blocks that can have keys from `low` up to and without `high`.
-    pub fn blocks_between(&self, low: &[u8], high: &[u8]) -> Range<usize>
-        ensures within { result.end ≤ length self.now }
-        // Of a dictionary: what the map has of these keys is what these blocks have of them, joined.
-        ensures only { (bytes : List ℕ) (terms : List Term) → IsDict bytes self.now terms
-            → (let wanted = filter (λ t. not (is_below t.key low.now) && is_below t.key high.now) in
-            wanted terms ≡ joined wanted terms result.start (result.end - result.start)) }
-        // Of any index: from the block of `low` on, those that begin below `high`.
-        ensures exact { AreBlocks self.now low.now (λ first. is_below first high.now) result.start result.end }
-    {
-        self.first_block(low)..self.count_before(Edge::Below(high))
     }
 
     /// The numbers of the blocks that can have keys with a prefix.

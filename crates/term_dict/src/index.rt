@@ -111,8 +111,6 @@ impl BlockIndex {
 pub(crate) enum Edge<'a> {
     /// Those that begin up to a key.
     UpTo(&'a [u8]),
-    /// Those that begin below a key.
-    Below(&'a [u8]),
     /// Those that begin below the last key with a prefix.
     Prefix(&'a [u8]),
 }
@@ -123,7 +121,6 @@ impl Edge<'_> {
     {
         match self {
             Edge::UpTo(key) => !is_below(key, first),
-            Edge::Below(high) => is_below(first, high),
             Edge::Prefix(prefix) => is_below(first, prefix) || first.starts_with(prefix),
         }
     }
