@@ -40,13 +40,6 @@ looked_all n [] = refl
 looked_all n (t ∷ []) = refl
 looked_all n (t ∷ u ∷ ts) = ap (λ b. each_looked b n (t ∷ u ∷ ts)) (lt-ltb 1 (length (t ∷ u ∷ ts)) (omega arith)) ∙ all_places n (t ∷ u ∷ ts)
 
-pub looked_step : (several : Bool) (n i : ℕ) (t : Token) (ts : List Token) (ls all : List Lookup) (key : List ℕ) → i < length ts → t ≡ get_or ts i t → key ≡ field_key n t.text → ls ++ each_looked several n (drop i ts) ≡ all
-    → (ls ++ cond several (Places key) (Documents key) ∷ []) ++ each_looked several n (drop (i + 1) ts) ≡ all
-looked_step several n i t ts ls all key lt e same h =
-    let rest : drop i ts ≡ t ∷ drop (i + 1) ts = drop_more ts i t lt ∙ ap (λ y. y ∷ drop (i + 1) ts) (sym e) in
-    append_assoc ls (cond several (Places key) (Documents key) ∷ []) (each_looked several n (drop (i + 1) ts))
-    ∙ (ap (λ k. ls ++ cond several (Places k) (Documents k) ∷ each_looked several n (drop (i + 1) ts)) same ∙ (ap (λ us. ls ++ each_looked several n us) (sym rest) ∙ h))
-
 pub item_step : (f : Field) (n i : ℕ) (t : Item) (ts : List Item) (ls all : List Lookup) (text : List ℕ) → i < length ts → t ≡ get_or ts i t → text ≡ t.text → ls ++ item_lookups f n (drop i ts) ≡ all
     → (ls ++ text_lookups f n text) ++ item_lookups f n (drop (i + 1) ts) ≡ all
 item_step f n i t ts ls all text lt e same h =

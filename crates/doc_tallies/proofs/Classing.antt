@@ -187,9 +187,6 @@ classes_regrouped agg kind entries bound numbers cells old new are is = record {
       turned_sum (weighed q new) (weighed q old) (weighed q cells) (weighed q (cells ++ old)) (is.weights q same) (sum_by-append (λ (c : Class). c.count * one_if (q c.sample)) cells old) ∙ are.weights q same;
 }
 
-pub sum_regrouped : (cells old new : List Class) (n : ℕ) → class_sum (cells ++ old) ≡ n → class_sum new ≡ class_sum old + class_sum cells → class_sum new ≡ n
-sum_regrouped cells old new n whole is = turned_sum (class_sum new) (class_sum old) (class_sum cells) (class_sum (cells ++ old)) is (sum_by-append (λ (c : Class). c.count) cells old) ∙ whole
-
 -- ---- no documents
 
 none_weigh : (f : Class → ℕ) (cs : List Class) → ((c : Class) → c.count ≡ 0 → f c ≡ 0) → AllByRecursion (λ c. c.count ≡ 0) cs → sum_by f cs ≡ 0

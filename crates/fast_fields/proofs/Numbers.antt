@@ -185,9 +185,6 @@ mask_is w le =
     let turned : 2 ^ 64 - 1 ≡ (2 ^ w - 1) * 2 ^ (64 - w) + (2 ^ (64 - w) - 1) = omega (arith, power, product) in
     ap (λ (n : ℕ). n / 2 ^ (64 - w)) turned ∙ shr_high (2 ^ w - 1) (64 - w) (2 ^ (64 - w) - 1) (omega arith)
 
-pub masked : (n w : ℕ) → w ≤ 64 → bit_and n ((2 ^ 64 - 1) / 2 ^ (64 - w)) ≡ n % 2 ^ w
-masked n w le = ap (λ (m : ℕ). bit_and n m) (mask_is w le) ∙ and_mask n w
-
 -- one byte more in front
 pub byte_before : (bs : List ℕ) (at value : ℕ) → at < length bs → value ≡ number (drop (at + 1) bs) → get_or bs at 0 + 256 * value ≡ number (drop at bs)
 unfolding number

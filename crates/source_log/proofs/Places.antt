@@ -41,18 +41,6 @@ step_is i Less rest = let e : i + 0 ≡ i = omega arith in ap (λ (n : ℕ). Err
 step_is i Equal rest = let e : i + 0 ≡ i = omega arith in ap (λ (n : ℕ). Ok n) e
 step_is i Greater rest = further-one i rest
 
-pub sought_at : (name : List ℕ) (parts : Log) (i : ℕ) (part : PartitionLog) (r : Ordering) → i < length parts → part ≡ get_or parts i part → r ≡ slice_cmp nat_cmp name part.partition
-    → sought name parts i ≡ answer_at i r (place_of name (drop (i + 1) parts))
-sought_at name parts i part r lt is e =
-    at_drop_more (λ (l : Log). further i (place_of name l)) parts i part lt
-    ∙ ap (λ (x : PartitionLog). further i (place_of name (x ∷ drop (i + 1) parts))) (sym is)
-    ∙ ap (λ (o : Ordering). further i (by_order o (Err 0) (Ok 0) (one_further (place_of name (drop (i + 1) parts))))) (sym e)
-    ∙ step_is i r (place_of name (drop (i + 1) parts))
-
-pub sought_end : (name : List ℕ) (parts : Log) (i : ℕ) → i ≡ length parts → sought name parts i ≡ Err i
-sought_end name parts i e =
-    at_drop_all (λ (l : Log). further i (place_of name l)) parts i (omega arith) ∙ (let z : i + 0 ≡ i = omega arith in ap (λ (n : ℕ). Err n) z)
-
 -- ---- by the place
 
 further_ok : (r : Result ℕ ℕ) (i : ℕ) → one_further r ≡ Ok i → (j : ℕ) × (r ≡ Ok j) × (i ≡ suc j)

@@ -318,12 +318,3 @@ numbered_text before after more v t n is utf8 grown same at small = record {
   number = subst (λ (x : Value). IsNumber after x n) (sym is) at;
   small = small;
 }
-
-pub numbered_plain : (texts : List (List ℕ)) (v w : Value) (n : ℕ) → v ≡ w → IsNumber texts w n → n < 2 ^ 64 → IsNumbered texts texts v n
-numbered_plain texts v w n is number small = record {
-  more = [];
-  after_is = sym (append-nil texts);
-  each = tt;
-  number = subst (λ (x : Value). IsNumber texts x n) (sym is) number;
-  small = small;
-}

@@ -66,17 +66,6 @@ says_none t s d os none = subst (λ (l : List Occurrence). Adds t t s (in_docume
 
 -- ---- a byte
 
-pub letter_is : (b l : ℕ) → Some l ≡ letter_of b → (is_ascii_alphanumeric b ≡ true) × (l ≡ to_ascii_lowercase b)
-letter_is b l e = by (is_ascii_alphanumeric b) refl
-  where
-    by : (x : Bool) → is_ascii_alphanumeric b ≡ x → (is_ascii_alphanumeric b ≡ true) × (l ≡ to_ascii_lowercase b)
-    by true is =
-        let found : Some l ≡ Some (to_ascii_lowercase b) = rw is at e in
-        (is, cc)
-    by false is =
-        let wrong : Some l ≡ None = rw is at e in
-        absurd cc
-
 pub no_letter : (b : ℕ) → None ≡ letter_of b → is_ascii_alphanumeric b ≡ false
 no_letter b e = by (is_ascii_alphanumeric b) refl
   where
@@ -86,14 +75,8 @@ no_letter b e = by (is_ascii_alphanumeric b) refl
         absurd cc
     by false is = is
 
-pub key_grown : (key now : List ℕ) (number b l : ℕ) (word : List ℕ) → is_ascii_alphanumeric b ≡ true → l ≡ to_ascii_lowercase b → key ≡ field_key number word → now ≡ key ++ l ∷ [] → now ≡ field_key number (next_word word b)
-key_grown key now number b l word letter lower is grown = rw letter (grown ∙ ap (λ (k : List ℕ). k ++ l ∷ []) is ∙ ap (λ (m : ℕ). field_key number (word ++ m ∷ [])) lower)
-
 pub same_position : (position b : ℕ) (word : List ℕ) → is_ascii_alphanumeric b ≡ true → position ≡ next_position position word b
 same_position position b word letter = rw letter refl
-
-pub says_letter : (number value position b : ℕ) (word : List ℕ) → is_ascii_alphanumeric b ≡ true → of_byte number value position word b ≡ []
-says_letter number value position b word letter = rw letter refl
 
 next_few : (position b : ℕ) (word : List ℕ) → next_position position word b ≤ position + 1
 next_few position b word = by (is_ascii_alphanumeric b) word

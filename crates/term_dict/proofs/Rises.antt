@@ -26,9 +26,3 @@ one_less t rest ts all is e w = record {
   to = λ h. w.to (subst (λ (l : List Term). IsRising l) (sym is) (above_first t ts e h, h));
   from = λ h. (let rising : IsRising (t ∷ ts) = subst (λ (l : List Term). IsRising l) is (w.from h) in rising.1);
 }
-
-pub not_rising : (t : Term) (rest ts all : List Term) → rest ≡ t ∷ ts → before_first t.key ts ≡ false → RisesWith rest all → IsRising all → ⊥
-not_rising t rest ts all is e w h =
-    let rising : IsRising (t ∷ ts) = subst (λ (l : List Term). IsRising l) is (w.from h) in
-    let above = first_above t ts rising.0 in
-    absurd cc

@@ -23,9 +23,6 @@ low_run n k h = let r = in_run k 0 n h in omega (arith, r.1)
 pub low_append : (l n m : ℕ) (xs ys : List ℕ) → AllBelow n xs → AllBelow m ys → n ≤ l → m ≤ l → AllBelow l (xs ++ ys)
 low_append l n m xs ys a b p q k h = dite (dec_le 1 (times k xs)) (λ here. omega (arith, a k here)) (λ not. omega (arith, b k (omega (arith, times_append k xs ys))))
 
-pub low_longer : (n m : ℕ) (xs : List ℕ) → AllBelow n xs → n ≤ m → AllBelow m xs
-low_longer n m xs a p k h = omega (arith, a k h)
-
 pub low_grown : (n m : ℕ) (xs : List ℕ) → AllBelow n xs → n ≤ m → AllBelow m (xs ++ run_of n (m - n))
 low_grown n m xs a p = low_append m n m xs (run_of n (m - n)) a (λ k h. let r = in_run k n (m - n) h in omega (arith, r.1)) p (omega arith)
 
