@@ -1,4 +1,4 @@
-//! How often something of the outside failed, and why first and last.
+//! How often something of the outside failed, and why first.
 
 ghost use Rattle.std.specs.Prelude.{◌≡◌, ◌≤◌, IfOk};
 ghost use Rattle.byte_fields.specs.Causes.{Rose};
@@ -68,18 +68,6 @@ pub fn tried<T>(doing: &'static str, given: io::Result<T>) -> Result<T, Trouble>
     }
 }
 
-/// A reason, and the room for its path, which is made ahead.
-#[derive(Drop)]
-struct Kept {
-    room: Option<String>,
-    reason: Option<Reason>,
-}
-
-const VACANT: Kept = Kept {
-    room: None,
-    reason: None,
-};
-
 // The path in the room that was made for it, where there is one.
 fn written(room: Option<String>, path: &str) -> Option<String> {
     let mut text = room?;
@@ -90,49 +78,24 @@ fn written(room: Option<String>, path: &str) -> Option<String> {
     }
 }
 
-impl Kept {
-    fn with_room(alloc: Global, room: usize) -> Result<Kept, AllocError> {
-        Ok(Kept {
-            room: Some(String::with_capacity(alloc, room)?),
-            reason: None,
-        })
-    }
-
-    fn keep(&mut self, path: &str, trouble: Trouble) {
-        let room = match self.reason.take() {
-            Some(reason) => {
-                let Reason { path, .. } = reason;
-                path
-            }
-            None => self.room.take(),
-        };
-        let Trouble { doing, error } = trouble;
-        self.reason = Some(Reason {
-            doing,
-            path: written(room, path),
-            error,
-        });
-    }
-}
-
 /// The failures of one thing of the outside.
 #[derive(Drop)]
 pub struct Faults {
     /// How many there were, up to 2^64 - 1.
     pub count: u64,
-    first: Kept,
-    last: Kept,
+    room: Option<String>,
+    first: Option<Reason>,
 }
 
 impl Faults {
-    /// None yet. The room for two paths of so many bytes is made now.
+    /// None yet. The room for a path of so many bytes is made now.
     pub fn with_room(alloc: Global, room: usize) -> Result<Faults, AllocError>
         ensures { IfOk result (λ faults. faults.count ≡ 0) }
     {
         Ok(Faults {
             count: 0,
-            first: Kept::with_room(alloc, room)?,
-            last: Kept::with_room(alloc, room)?,
+            room: Some(String::with_capacity(alloc, room)?),
+            first: None,
         })
     }
 
@@ -142,8 +105,8 @@ impl Faults {
     {
         Faults {
             count: 0,
-            first: VACANT,
-            last: VACANT,
+            room: None,
+            first: None,
         }
     }
 
@@ -153,18 +116,17 @@ impl Faults {
         ensures rose { Rose self.old.count self.new.count }
     {
         self.count = self.count.saturating_add(1);
-        if self.first.reason.is_none() {
-            self.first.keep(path, trouble);
-        } else {
-            self.last.keep(path, trouble);
+        if self.first.is_none() {
+            let Trouble { doing, error } = trouble;
+            self.first = Some(Reason {
+                doing,
+                path: written(self.room.take(), path),
+                error,
+            });
         }
     }
 
     pub fn first(&self) -> Option<&Reason> {
-        self.first.reason.as_ref()
-    }
-
-    pub fn last(&self) -> Option<&Reason> {
-        self.last.reason.as_ref().or(self.first.reason.as_ref())
+        self.first.as_ref()
     }
 }

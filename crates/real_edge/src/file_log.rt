@@ -69,11 +69,6 @@ impl<'a, F: Files> FileLog<'a, F> {
         self.faults.first()
     }
 
-    /// Why it failed last, if it did.
-    pub fn last_reason(&self) -> Option<&Reason> {
-        self.faults.last()
-    }
-
     fn failed(&mut self, trouble: Trouble) -> ReadError
         ensures later { self.old.faults.count ≤ self.new.faults.count }
         ensures cause { HasCause self.old.faults.count self.new.faults.count (result ≡ Failed) }

@@ -224,11 +224,6 @@ impl<'a, F: WriterLock> FolderStore<'a, F> {
         self.faults.first()
     }
 
-    /// Why it failed last, if it did.
-    pub fn last_reason(&self) -> Option<&Reason> {
-        self.faults.last()
-    }
-
     fn fail(&mut self, trouble: Trouble)
         ensures later { self.old.faults.count ≤ self.new.faults.count }
         ensures rose { Rose self.old.faults.count self.new.faults.count }

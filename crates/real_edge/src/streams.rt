@@ -55,11 +55,6 @@ impl<R: Read + Drop> StdSource<R> {
     pub fn first_reason(&self) -> Option<&Reason> {
         self.faults.first()
     }
-
-    /// Why it failed last, if it did.
-    pub fn last_reason(&self) -> Option<&Reason> {
-        self.faults.last()
-    }
 }
 
 impl<R: Read + Drop> Source for StdSource<R> {
@@ -101,11 +96,6 @@ impl<W: Write + Drop> StdSink<W> {
     /// Why it failed first, if it did.
     pub fn first_reason(&self) -> Option<&Reason> {
         self.faults.first()
-    }
-
-    /// Why it failed last, if it did.
-    pub fn last_reason(&self) -> Option<&Reason> {
-        self.faults.last()
     }
 }
 
