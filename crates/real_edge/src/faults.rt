@@ -71,7 +71,6 @@ pub fn tried<T>(doing: &'static str, given: io::Result<T>) -> Result<T, Trouble>
 // The path in the room that was made for it, where there is one.
 fn written(room: Option<String>, path: &str) -> Option<String> {
     let mut text = room?;
-    text.clear();
     match text.push_str(path) {
         Ok(()) => Some(text),
         Err(_) => None,

@@ -1,6 +1,6 @@
 //! The outside as it is: folders of objects and of logs, the system's clock, and the standard streams.
 //!
-//! Each counts its failures, keeps why it failed first and last, and tells nothing of what it holds.
+//! Each counts its failures, keeps why it failed first, and tells nothing of what it holds.
 #![tactic(auto)]
 
 mod faults;
