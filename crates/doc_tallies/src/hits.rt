@@ -64,11 +64,18 @@ fn is_full(wanted: usize, count: usize) -> bool
 // How many hits more than are wanted are kept before they are cut, at least.
 const SPARE: usize = 64;
 
+// How many hits more than are wanted are kept before they are cut. Before the first cut by addresses there are none: of documents that
+// come in the order of their addresses no more than are wanted are then read.
+fn spare_by_address(wanted: usize, full: bool) -> usize {
+    if full { wanted.max(SPARE) } else { 0 }
+}
+
 // Adds a hit to some among which the first so many of all are, unless it is late. It says whether so many are known not to stand
 // behind the last of these, as it is told of the hits before.
 fn keep(
     order: Option<HitOrder>,
     wanted: usize,
+    spare: usize,
     full: bool,
     kept: &mut Vec<Placed>,
     hit: Placed,
@@ -81,7 +88,7 @@ fn keep(
         return Ok(true);
     }
     kept.push(hit)?;
-    if kept.len().saturating_sub(wanted) < wanted.max(SPARE) {
+    if kept.len() < wanted.saturating_add(spare) {
         return Ok(full);
     }
     cut(order, wanted, kept)?;
@@ -105,9 +112,10 @@ fn hits_among(
 {
     let mut kept = Vec::new(alloc);
     let mut full = false;
+    let spare = wanted.max(SPARE);
     for number in numbers {
         match view.placed(alloc, schema, *number) {
-            Ok(hit) => full = keep(order, wanted, full, &mut kept, hit)?,
+            Ok(hit) => full = keep(order, wanted, spare, full, &mut kept, hit)?,
             Err(fault) => return Err(fault),
         }
     }
@@ -162,7 +170,10 @@ fn keep_there(
     match is_late_there(view, wanted, full, kept.as_slice(), number) {
         Ok(true) => Ok(full),
         Ok(false) => match view.placed(alloc, schema, number) {
-            Ok(hit) => Ok(keep(None, wanted, full, kept, hit)?),
+            Ok(hit) => {
+                let spare = spare_by_address(wanted, full);
+                Ok(keep(None, wanted, spare, full, kept, hit)?)
+            }
             Err(fault) => Err(fault),
         },
         Err(fault) => Err(fault),

@@ -131,6 +131,16 @@ fn some_of(alloc: Global, numbers: &[u32]) -> Result<Vec<u32>, AllocError> {
     Ok(some)
 }
 
+// The place of the first bar among the keys of one in so many documents: the share of the first so many, and some more, so that this
+// bar mostly has so many documents before it and few others.
+fn first_place(wanted: usize) -> usize
+    requires { 1 ≤ wanted }
+    ensures { 1 ≤ result }
+{
+    let share = wanted / APART;
+    wanted.min(share + share / 4 + 16)
+}
+
 // Those of some documents whose keys do not stand behind a bar.
 fn near_in(
     alloc: Global,
@@ -183,7 +193,7 @@ fn near_twice(
     ensures among { IfOk result (λ near. (n : ℕ) → Contains near.items n → Contains numbers.now n) }
 {
     let some = some_of(alloc, numbers)?;
-    if let Some(bar) = bar_of(alloc, sort, wanted, some.as_slice())? {
+    if let Some(bar) = bar_of(alloc, sort, first_place(wanted), some.as_slice())? {
         let near = near_in(alloc, &sort.field.column, sort.descending, bar, numbers)?;
         if near.len() >= wanted {
             return near_by(alloc, sort, wanted, near.as_slice());

@@ -1,10 +1,11 @@
 -- The documents that may be shown, and the parts of each of some numbers.
-use Rattle.std.proofs.Common.{◌≡◌, ◌==◌, ℕ, zero, suc, ◌+◌, ◌<◌, ◌≤◌, ◌⊎◌, inl, inr, Bool, true, false, cond, List, [], ◌∷◌, length, drop, get_or, slice_get, nat_lt, nat_le, Option, Some, None, Vec, Result, Ok, Err, MatchOption, MatchResult, Contains, refl, ap, sym, subst, ◌∙◌, arith, rules, tests}
-use Rattle.std.specs.List.{All, count_by, filter}
-use Rattle.std.specs.Option.{option_map_or}
+use Rattle.std.proofs.Common.{◌≡◌, ◌==◌, ℕ, zero, suc, ◌+◌, ◌<◌, ◌≤◌, ◌⊎◌, inl, inr, min, Bool, true, false, cond, List, [], ◌∷◌, ◌++◌, length, drop, take, get_or, slice_get, nat_lt, nat_le, Option, Some, None, Vec, Result, Ok, Err, MatchOption, MatchResult, Contains, refl, ap, sym, subst, ◌∙◌, arith, rules, tests}
+use Rattle.std.specs.Bool.{OnTrue}
+use Rattle.std.specs.List.{All, AllByRecursion, count_by, filter}
+use Rattle.std.specs.Option.{option_map_or, option_to_list}
 use Rattle.std.proofs.lemmas.Bool.{le-ltb}
-use Rattle.std.proofs.lemmas.List.{drop_more}
-use Rattle.std.proofs.lemmas.List.Elements.{Contains-get_or}
+use Rattle.std.proofs.lemmas.List.{drop_more, length-take}
+use Rattle.std.proofs.lemmas.List.Elements.{Contains-get_or, recursion_from_All}
 use Rattle.doc_value.specs.declared.schema.Schema.{Schema}
 use Rattle.doc_value.specs.declared.doc.DocField.{DocField}
 use Rattle.query_ast.specs.Sought.{view}
@@ -19,8 +20,13 @@ use Rattle.doc_sets.specs.declared.leaf_error.LeafError.{LeafError}
 use Rattle.doc_sets.specs.Faults.{HasCause}
 use Rattle.doc_sets.proofs.Causes.{cause_wider}
 use Rattle.doc_tallies.specs.declared.hit_order.HitOrder.{HitOrder}
+use Rattle.doc_tallies.specs.Firsts.{sorted_by}
 use Rattle.doc_tallies.specs.Near.{has_few_ahead, is_ahead, shown}
+use Rattle.doc_tallies.specs.Orders.{comes_before}
 use Rattle.doc_tallies.specs.Picked.{picked}
+use Rattle.doc_tallies.proofs.Nears.{shown_firsts}
+use Rattle.doc_tallies.proofs.Parting.{length_sorted}
+use Rattle.doc_tallies.proofs.TimeValues.{stands}
 use Rattle.leaf_search.specs.Answers.{passes}
 use Rattle.leaf_search.specs.Asks.{lookups_of}
 use Rattle.leaf_search.specs.Counts.{counted_key, request_lookups}
@@ -59,11 +65,50 @@ le_true a b le = search (rules, tests)
 le_false : (a b : ℕ) → b < a → nat_le a b ≡ false
 le_false a b lt = search (rules, tests)
 
+-- what a test that is true says
+pub when_true : (t : Bool) (P : Type 0) → t ≡ true → OnTrue t P → P
+when_true true P e h = h
+when_true false P e h = absurd (cc)
+
 pub few_true : (s : Schema) (r : LeafRequest) (ds : List Placed) (ns : List ℕ) → ns ≡ shown_of s r ds → length ns ≤ 256 → AreFew s r ds ns
 few_true s r ds ns same le = (le_true (length (shown_of s r ds)) 256 (let e = ap length same in omega arith), same)
 
 pub few_false : (s : Schema) (r : LeafRequest) (ds : List Placed) (ns : List ℕ) → ns ≡ shown_of s r ds → 256 < length ns → are_few s r ds ≡ false
 few_false s r ds ns same lt = le_false (length (shown_of s r ds)) 256 (let e = ap length same in omega arith)
+
+-- ---- of many that are wanted many may be shown
+
+picked_short : (ds : List Placed) (ns : List ℕ) → length (picked ns ds) ≤ length ns
+picked_short ds [] = omega arith
+picked_short ds (n ∷ ns) = go (slice_get ds n) (picked_short ds ns)
+  where
+    go : (o : Option Placed) → length (picked ns ds) ≤ length ns → length (option_to_list o ++ picked ns ds) ≤ suc (length ns)
+    go None h = omega (arith, h)
+    go (Some d) h = omega (arith, h)
+
+picked_long : (ds : List Placed) (ns : List ℕ) → AllByRecursion (λ n. n < length ds) ns → length (picked ns ds) ≡ length ns
+picked_long ds [] below = refl
+picked_long ds (n ∷ ns) below = let at = stands ds n below.0 in rw (at.here) (ap (λ k. suc k) (picked_long ds ns below.1))
+
+-- no fewer may be shown than are wanted, as far as there are so many
+enough_shown : (o : Option HitOrder) (wanted : ℕ) (ds : List Placed) (ns : List ℕ) → AllByRecursion (λ n. n < length ds) ns → min wanted (length ns) ≤ length (shown o wanted ds ns)
+enough_shown o wanted ds ns below =
+    let b = comes_before o in
+    let near : List Placed = picked (shown o wanted ds ns) ds in
+    let all : List Placed = picked ns ds in
+    let same : length (take wanted (sorted_by b near)) ≡ length (take wanted (sorted_by b all)) = ap (λ (xs : List Placed). length xs) (shown_firsts o wanted ds ns below) in
+    let one : length (take wanted (sorted_by b near)) ≡ min wanted (length (sorted_by b near)) = length-take wanted (sorted_by b near) in
+    let other : length (take wanted (sorted_by b all)) ≡ min wanted (length (sorted_by b all)) = length-take wanted (sorted_by b all) in
+    let near_long : length (sorted_by b near) ≡ length near = length_sorted b near in
+    let all_long : length (sorted_by b all) ≡ length all = length_sorted b all in
+    let short = picked_short ds (shown o wanted ds ns) in
+    let long = picked_long ds ns below in
+    omega arith
+
+pub many_false : (s : Schema) (r : LeafRequest) (ds : List Placed) → All (λ n. n < length ds) (numbers_of (passes s r) ds) → 256 < r.wanted → 256 < length (numbers_of (passes s r) ds) → are_few s r ds ≡ false
+many_false s r ds below wanted many =
+    let enough : min r.wanted (length (numbers_of (passes s r) ds)) ≤ length (shown_of s r ds) = enough_shown r.order r.wanted ds (numbers_of (passes s r) ds) (recursion_from_All (λ (n : ℕ). n < length ds) (numbers_of (passes s r) ds) below) in
+    le_false (length (shown_of s r ds)) 256 (omega arith)
 
 -- what is said of the documents that may be shown
 abbrev pub Says : {Z : Type 0} → Schema → LeafRequest → List Placed → Option (Vec ℕ Z) → Type 0

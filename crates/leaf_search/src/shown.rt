@@ -1,6 +1,7 @@
 //! Which documents of a split may be shown, and the ranges of its file that only these need.
 
 ghost use Rattle.std.specs.Prelude.{◌≡◌, ◌<◌, ◌≤◌, ◌⊎◌, false, length, List, Some, slice_get, IfOk, OnOk, MatchOption, MatchResult};
+ghost use Rattle.std.specs.Bool.{OnTrue};
 ghost use Rattle.std.specs.List.{All};
 ghost use Rattle.doc_value.specs.declared.schema.Schema.{Schema};
 ghost use Rattle.query_ast.specs.Sought.{view as query_view};
@@ -33,6 +34,13 @@ use std::alloc::{AllocError, Global};
 // At most so many documents are named one by one. Each takes two fetches of its own where none touches another, and a page has some
 // ten of them: beyond it one fetch of the whole section costs less than hundreds of small ones.
 const MOST_APART: usize = 256;
+
+// Whether so many are wanted of these numbers that more may be shown than are named one by one.
+fn are_many(wanted: usize, numbers: &[u32]) -> bool
+    ensures { OnTrue result ((256 < wanted) × (256 < length numbers.now)) }
+{
+    wanted > MOST_APART && numbers.len() > MOST_APART
+}
 
 // The numbers of the documents that match and lie in the times.
 pub(crate) fn found_numbers(
@@ -71,6 +79,9 @@ pub fn shown_documents(
         return Ok(Some(Vec::new(alloc)));
     }
     let numbers = found_numbers(alloc, schema, request, view)?;
+    if are_many(request.wanted, numbers.as_slice()) {
+        return Ok(None);
+    }
     let shown = near_of(
         alloc,
         schema,

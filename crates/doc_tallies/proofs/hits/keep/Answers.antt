@@ -8,8 +8,8 @@ use Rattle.doc_tallies.proofs.Putting.{InOrder, firsts_in_order}
 use Rattle.doc_tallies.proofs.Tabling.{on_true}
 use Rattle.doc_tallies.proofs.hits.keep.Goals as goal
 
-pub returns-then-saturating_sub-max-clause-bar : goal.returns-then-saturating_sub-max-clause-bar
-returns-then-saturating_sub-max-clause-bar c =
+pub returns-then-len-saturating_add-clause-bar : goal.returns-then-len-saturating_add-clause-bar
+returns-then-len-saturating_add-clause-bar c =
     let b = comes_before c.args.order in
     let wanted = c.args.wanted in
     on_true c.args.full (HasBar b wanted c.args.kept.now.items) (HasBar b wanted c.push.new.self.items)

@@ -1,4 +1,5 @@
-use Rattle.std.proofs.Common.{◌≡◌, ◌∙◌, ℕ, ◌⊎◌, List, inl, inr, ap, length, sym, subst, arith}
+use Rattle.std.proofs.Common.{◌≡◌, ◌∙◌, ℕ, ◌<◌, ◌⊎◌, List, inl, inr, ap, length, sym, subst, arith}
+use Rattle.std.specs.List.{All}
 use Rattle.query_ast.specs.Sought.{view}
 use Rattle.doc_sets.specs.Asking.{AsksLookups}
 use Rattle.doc_sets.specs.Faults.{HasCause}
@@ -7,11 +8,12 @@ use Rattle.doc_sets.proofs.Causes.{cause_wider}
 use Rattle.doc_tallies.specs.Causes.{AsksField}
 use Rattle.doc_tallies.specs.Near.{shown}
 use Rattle.doc_tallies.specs.Orders.{sort_field}
-use Rattle.leaf_search.specs.Answers.{AsksTimes}
+use Rattle.leaf_search.specs.Answers.{AsksTimes, passes}
 use Rattle.leaf_search.specs.Asks.{lookups_of}
+use Rattle.leaf_search.specs.Numbers.{numbers_of}
 use Rattle.leaf_search.specs.Shown.{TellsShown, shown_of}
 use Rattle.leaf_search.proofs.LeafSteps.{faulted, handed, positive}
-use Rattle.leaf_search.proofs.ShownParts.{Says, few_false, few_true, lookups_all, none_shown}
+use Rattle.leaf_search.proofs.ShownParts.{Says, few_false, few_true, lookups_all, many_false, none_shown, when_true}
 use Rattle.leaf_search.proofs.shown.shown_documents.Goals as goal
 
 pub returns-then-request-eq0 : goal.returns-then-request-eq0
@@ -38,6 +40,20 @@ returns-in_err-numbers c = record {
       ]) (c.in_err-numbers.ensures.only documents p part ask));
 }
 
+pub returns-then-are_many : goal.returns-then-are_many
+returns-then-are_many c = record {
+  only = λ documents p part ask.
+      let s = c.args.schema.now in
+      let r = c.args.request.now in
+      let found = c.in_ok-numbers.ensures.only documents p part ask in
+      let same = c.as_slice.ensures.value ∙ found in
+      let many = when_true c.are_many.result ((256 < r.wanted) × (256 < length c.as_slice.result.now)) c.if-are_many.true c.are_many.ensures in
+      let counted = part.footer.layout.docs ∙ part.is_split.docs in
+      let below : All (λ n. n < length documents) (numbers_of (passes s r) documents) =
+      subst (λ (ns : List ℕ). All (λ n. n < length documents) ns) found (subst (λ (k : ℕ). All (λ n. n < k) c.in_ok-numbers.numbers.items) counted c.in_ok-numbers.ensures.below) in
+      many_false s r documents below many.0 (subst (λ (ns : List ℕ). 256 < length ns) same many.1);
+}
+
 pub returns-in_err-shown : goal.returns-in_err-shown
 returns-in_err-shown c = record {
   only = λ documents p part ask.
@@ -54,7 +70,7 @@ returns-then-len-gt-MOST_APART c = record {
       let s = c.args.schema.now in
       let r = c.args.request.now in
       let items = c.in_ok-shown.shown.items in
-      let same : items ≡ shown_of s r documents = c.in_ok-shown.ensures.only documents p part ask.order ∙ ap (λ (ns : List ℕ). shown r.order r.wanted documents ns) (c.as_slice.ensures.value ∙ c.in_ok-numbers.ensures.only documents p part ask) in
+      let same : items ≡ shown_of s r documents = c.in_ok-shown.ensures.only documents p part ask.order ∙ ap (λ (ns : List ℕ). shown r.order r.wanted documents ns) (c.as_slice-2.ensures.value ∙ c.in_ok-numbers.ensures.only documents p part ask) in
       few_false s r documents items same (omega (arith, c.len.ensures, c.in_ok-shown.shown.ok.0, c.if-len-gt-MOST_APART.true));
 }
 
@@ -64,6 +80,6 @@ returns c = record {
       let s = c.args.schema.now in
       let r = c.args.request.now in
       let items = c.in_ok-shown.shown.items in
-      let same : items ≡ shown_of s r documents = c.in_ok-shown.ensures.only documents p part ask.order ∙ ap (λ (ns : List ℕ). shown r.order r.wanted documents ns) (c.as_slice.ensures.value ∙ c.in_ok-numbers.ensures.only documents p part ask) in
+      let same : items ≡ shown_of s r documents = c.in_ok-shown.ensures.only documents p part ask.order ∙ ap (λ (ns : List ℕ). shown r.order r.wanted documents ns) (c.as_slice-2.ensures.value ∙ c.in_ok-numbers.ensures.only documents p part ask) in
       few_true s r documents items same (omega (arith, c.len.ensures, c.in_ok-shown.shown.ok.0, c.if-len-gt-MOST_APART.false));
 }
