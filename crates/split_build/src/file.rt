@@ -164,7 +164,7 @@ impl FileBegun {
             ..
         } = self;
         let mut out = begun;
-        out.extend_from_slice(terms.dictionary.as_slice())?;
+        put_all(&mut out, terms.dictionary.into_vec())?;
         put_all(&mut out, terms.postings)?;
         put_all(&mut out, terms.positions)?;
         put_all(&mut out, columns.bytes)?;

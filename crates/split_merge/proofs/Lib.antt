@@ -1,6 +1,7 @@
 pub mod KeptLemmas
 pub mod ReadLemmas
 pub mod TableLemmas
+pub mod RisingLemmas
 pub mod PlaceLemmas
 pub mod ListLemmas
 pub mod WalkLemmas

@@ -1,5 +1,6 @@
 pub mod Keeping
 pub mod Numbering
+pub mod HeldNumbers
 pub mod Faults
 pub mod Joining
 pub mod Walking

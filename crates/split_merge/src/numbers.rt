@@ -1,7 +1,8 @@
 //! The numbers of documents among those that are kept.
 
-ghost use Rattle.std.specs.Prelude.{◌≡◌, ◌+◌, ◌<◌, ◌≤◌, ◌^◌, ℕ, IfOk, OnOk, if◌then◌else◌};
+ghost use Rattle.std.specs.Prelude.{◌≡◌, ◌↔◌, ◌+◌, ◌<◌, ◌≤◌, ◌^◌, ℕ, IfOk, IsTrue, OnOk, if◌then◌else◌};
 ghost use Rattle.split_merge.specs.Keeping.{is_named, RiseFrom};
+ghost use Rattle.split_merge.specs.HeldNumbers.{rising};
 ghost use Rattle.split_merge.specs.Numbering.{kept_count, kept_in, no_number, number_in, table_of, tables_of};
 
 use crate::keeping::passed;
@@ -12,18 +13,50 @@ use std::marker::Model;
 // What stands in place of a number where a document is dropped.
 const NO_NUMBER: u32 = u32::MAX;
 
+// How the numbers of a split's documents are held.
+#[derive(Drop)]
+enum HeldNumbers {
+    // So many that rise by one from the first: no document is dropped.
+    Rising { first: u32, docs: u32 },
+    // One for each document.
+    Table(Vec<u32>),
+}
+
 /// The number of each document of a split among those that are kept, which contracts see as a list.
 #[derive(Drop)]
 pub(crate) struct Numbers {
-    table: Vec<u32>,
+    held: HeldNumbers,
 }
 
 impl Model for Numbers {
     ghost use Rattle.std.specs.Prelude.{List, ℕ};
+    ghost use Rattle.split_merge.specs.HeldNumbers.{AreBelow, numbers_in};
 
     ghost Value = { List ℕ };
 
-    ghost view = { λ n. n.table.items };
+    ghost view = { λ n. numbers_in n.held };
+
+    ghost invariant = { λ n. AreBelow n.held };
+}
+
+// The number of a document by numbers that rise.
+#[inline]
+fn number_from(first: u32, docs: u32, doc: u32) -> Option<u32>
+    requires { first + docs ≤ no_number }
+    ensures { result ≡ number_in (rising first docs) doc }
+{
+    if doc < docs { Some(first + doc) } else { None }
+}
+
+// The number of a document by a table.
+#[inline]
+fn number_at(table: &[u32], doc: u32) -> Option<u32>
+    ensures { result ≡ number_in table.now doc }
+{
+    match table.get(doc as usize) {
+        Some(number) if *number != NO_NUMBER => Some(*number),
+        _ => None,
+    }
 }
 
 impl Numbers {
@@ -32,9 +65,9 @@ impl Numbers {
     pub(crate) fn get(&self, doc: u32) -> Option<u32>
         ensures { result ≡ number_in self.now doc }
     {
-        match self.table.get(doc as usize) {
-            Some(number) if *number != NO_NUMBER => Some(*number),
-            _ => None,
+        match &self.held {
+            HeldNumbers::Rising { first, docs } => number_from(*first, *docs, doc),
+            HeldNumbers::Table(table) => number_at(table, doc),
         }
     }
 }
@@ -61,6 +94,36 @@ struct ViewNumbers<'a> {
     next: u32,
 }
 
+// Whether places that rise do so from one on.
+fn rise_from(places: &[u64], place: u128) -> bool
+    requires { (least : ℕ) × RiseFrom least places.now }
+    ensures { IsTrue result ↔ RiseFrom place places.now }
+{
+    match places.first() {
+        Some(first) => place <= u128::from(*first),
+        None => true,
+    }
+}
+
+// The numbers of so many documents of which none is dropped, from this number on. There is no room for 2^32 numbers.
+fn all_numbered(docs: u32, places: &[u64], next: u32) -> Result<ViewNumbers<'_>, AllocError>
+    ensures numbers { IfOk result (λ n. n.numbers ≡ rising next docs) }
+    ensures places { IfOk result (λ n. n.places.now ≡ places.now) }
+    ensures next { IfOk result (λ n. n.next ≡ next + docs) }
+    ensures small { IfOk result (λ n. n.next ≤ no_number) }
+{
+    match next.checked_add(docs) {
+        Some(above) => Ok(ViewNumbers {
+            numbers: Numbers {
+                held: HeldNumbers::Rising { first: next, docs },
+            },
+            places,
+            next: above,
+        }),
+        None => Err(AllocError),
+    }
+}
+
 // The numbers of so many documents, of which the first has this place and the first that is kept this number.
 fn numbered<'a>(
     alloc: Global,
@@ -77,6 +140,9 @@ fn numbered<'a>(
     ensures next { IfOk result (λ n. n.next ≡ next + kept_count places.now first docs) }
     ensures small { IfOk result (λ n. n.next ≤ no_number) }
 {
+    if rise_from(places, first + u128::from(docs)) {
+        return all_numbered(docs, places, next);
+    }
     let mut table = Vec::with_capacity(alloc, docs as usize)?;
     let mut rest = places;
     let mut place = first;
@@ -90,7 +156,9 @@ fn numbered<'a>(
         place += 1;
     }
     Ok(ViewNumbers {
-        numbers: Numbers { table },
+        numbers: Numbers {
+            held: HeldNumbers::Table(table),
+        },
         places: rest,
         next: number,
     })

@@ -1,11 +1,11 @@
 -- Which documents of a file are dropped, and what is left of them.
-use Rattle.std.proofs.Common.{◌≡◌, inl, inr, ℕ, zero, suc, ◌+◌, ◌<◌, ◌≤◌, ◌==◌, ◌&&◌, ◌||◌, Bool, true, false, cond, get_or, not, List, [], ◌∷◌, ◌++◌, drop, filter, length, map, min, take, refl, sym, ap, ap₂, ◌∙◌, subst, arith, eq-eqb, nat_le, nat_lt, ◌⊎◌, Option, Some, None}
+use Rattle.std.proofs.Common.{◌≡◌, inl, inr, ℕ, zero, suc, ◌+◌, ◌<◌, ◌≤◌, ◌==◌, ◌&&◌, ◌||◌, Bool, true, false, cond, get_or, not, List, [], ◌∷◌, ◌++◌, drop, filter, length, map, min, take, refl, sym, ap, ap₂, ◌∙◌, subst, arith, eq-eqb, nat_le, nat_lt, ◌⊎◌, Option, Some, None, Ok, Err, Result}
 use Rattle.std.proofs.lemmas.Bool.{cases_Bool, eqb-true, le-leb, le-ltb, lt-leb, ne_eqb}
 use Rattle.std.proofs.lemmas.Bool.Decides.{nat_tests}
 use Rattle.std.proofs.lemmas.List.Elements.{filter_agree}
 use Rattle.std.proofs.lemmas.List.Folds.{list_any-append}
 use Rattle.std.specs.List.{list_any}
-use Rattle.std.specs.Prelude.{slice_get, slice_index}
+use Rattle.std.specs.Prelude.{slice_get, IsOkAnd, MatchResult}
 use Rattle.delete_tasks.specs.Removed.{Place, lies_in}
 use Rattle.delete_tasks.specs.Removes.{DeleteTask, removes}
 use Rattle.doc_sets.specs.Bits.{has}
@@ -25,9 +25,8 @@ use Rattle.split_bundle.specs.declared.placed.Placed.{Placed}
 use Rattle.split_merge.specs.Keeping.{RiseFrom, is_named, kept, kept_from}
 use Rattle.index_world.specs.Replacing.{is_dropped_by, left_in}
 use Rattle.index_world.specs.Seen.{place_of}
-use Rattle.upkeep_run.proofs.Corrupted.{zip_more}
 use Rattle.query_ast.specs.Askable.{CanAsk}
-use Rattle.upkeep_run.specs.Dropping.{AreAdmitted, AreAsked, HasDropped, IsAdmitted, IsDropSet, came_before, drops, holds, is_dropped, least_of}
+use Rattle.upkeep_run.specs.Dropping.{AreAsked, HasDropped, IsAdmitted, IsDropSet, came_before, drops, holds, is_before, is_dropped, least_of}
 
 -- ---- the tests
 
@@ -150,10 +149,6 @@ admitted_past spans s upto x admitted away h = λ o le.
     or_none true = refl
     or_none false = refl
 
-pub admitted_more : (spans : List Span) (upto : ℕ) (documents : List Placed) (numbers : List ℕ) (n : ℕ) (d : Placed) (admitted : ℕ) → slice_get documents n ≡ Some d → IsAdmitted spans upto (place_of d) admitted →
-    AreAdmitted spans upto (take n documents) numbers → AreAdmitted spans upto (take (suc n) documents) (numbers ++ admitted ∷ [])
-admitted_more spans upto documents numbers n d admitted there one h = zip_more (λ (d : Placed) (admitted : ℕ). IsAdmitted spans upto (place_of d) admitted) documents numbers n d admitted there one h
-
 -- ---- the numbers of documents
 
 below_apart : (m n : ℕ) → m < n → (m == n) ≡ false
@@ -200,31 +195,36 @@ one_of_push k (m ∷ ns) n = ap (λ b. (k == m) || b) (one_of_push k ns n) ∙ o
 
 -- ---- a set of them
 
--- a number more was put in, if it came before
-pub put_more : (k n opstamp at_k at_n : ℕ) (new was old one : Bool) → (k ≡ n → at_k ≡ at_n) → was ≡ (old || (one && nat_lt at_k opstamp)) → new ≡ (was || ((k == n) && nat_lt at_n opstamp)) →
-    new ≡ (old || ((one || (k == n)) && nat_lt at_k opstamp))
-put_more k n opstamp at_k at_n new was old one same h e = e ∙ ap (λ b. b || ((k == n) && nat_lt at_n opstamp)) h ∙ by (cases_Bool (k == n))
+-- a document's number is put in, if its record was taken in before the task
+pub put_at : (spans : List Span) (upto opstamp : ℕ) (ds : List Placed) (n : ℕ) (d : Placed) (admitted k : ℕ) (new old : Bool) → opstamp ≤ upto → slice_get ds n ≡ Some d → IsAdmitted spans upto (place_of d) admitted →
+    new ≡ (old || ((k == n) && nat_lt admitted opstamp)) → new ≡ (old || ((k == n) && holds (is_before spans opstamp) ds k))
+put_at spans upto opstamp ds n d admitted k new old le there h e = e ∙ ap (λ b. old || b) (by (cases_Bool (k == n)))
   where
-    ends : (a b c : Bool) → ((a || (b && c)) || (true && c)) ≡ (a || ((b || true) && c))
-    ends true b c = refl
-    ends false true true = refl
-    ends false true false = refl
-    ends false false c = refl
+    at_n : (ds : List Placed) (n : ℕ) → slice_get ds n ≡ Some d → holds (is_before spans opstamp) ds n ≡ is_before spans opstamp d
+    at_n [] n there = absurd (never there)
+      where
+        never : ◌≡◌ {A = Option Placed} None (Some d) → ⊥
+        never e = cc e
+    at_n (x ∷ ds) zero there = ap (is_before spans opstamp) (first there)
+      where
+        first : ◌≡◌ {A = Option Placed} (Some x) (Some d) → x ≡ d
+        first e = cc e
+    at_n (x ∷ ds) (suc n) there = at_n ds n there
 
-    rests : (a b c d : Bool) → ((a || (b && c)) || (false && d)) ≡ (a || ((b || false) && c))
-    rests true b c d = refl
-    rests false true true d = refl
-    rests false true false d = refl
-    rests false false c d = refl
+    by : ((k == n) ≡ true) ⊎ ((k == n) ≡ false) → ((k == n) && nat_lt admitted opstamp) ≡ ((k == n) && holds (is_before spans opstamp) ds k)
+    by (inl t) = ap (λ b. (k == n) && b) (h opstamp le ∙ sym (at_n ds n there) ∙ ap (holds (is_before spans opstamp) ds) (sym (eqb-true k n t)))
+    by (inr f) = ap (λ b. b && nat_lt admitted opstamp) f ∙ sym (ap (λ b. b && holds (is_before spans opstamp) ds k) f)
 
-    by : ((k == n) ≡ true) ⊎ ((k == n) ≡ false) → ((old || (one && nat_lt at_k opstamp)) || ((k == n) && nat_lt at_n opstamp)) ≡ (old || ((one || (k == n)) && nat_lt at_k opstamp))
-    by (inl t) =
-        ap (λ m. (old || (one && nat_lt at_k opstamp)) || ((k == n) && nat_lt m opstamp)) (sym (same (eqb-true k n t)))
-        ∙ ap (λ b. (old || (one && nat_lt at_k opstamp)) || (b && nat_lt at_k opstamp)) t ∙ ends old one (nat_lt at_k opstamp)
-        ∙ ap (λ b. old || ((one || b) && nat_lt at_k opstamp)) (sym t)
-    by (inr f) =
-        ap (λ b. (old || (one && nat_lt at_k opstamp)) || (b && nat_lt at_n opstamp)) f ∙ rests old one (nat_lt at_k opstamp) (nat_lt at_n opstamp)
-        ∙ ap (λ b. old || ((one || b) && nat_lt at_k opstamp)) (sym f)
+-- and one more
+pub put_more : (new was old one here test : Bool) → was ≡ (old || (one && test)) → new ≡ (was || (here && test)) → new ≡ (old || ((one || here) && test))
+put_more new was old one here test h e = e ∙ ap (λ b. b || (here && test)) h ∙ ends old one here test
+  where
+    ends : (a b c d : Bool) → ((a || (b && d)) || (c && d)) ≡ (a || ((b || c) && d))
+    ends true b c d = refl
+    ends false true c true = refl
+    ends false true true false = refl
+    ends false true false false = refl
+    ends false false c d = refl
 
 -- ---- what one task drops, by the numbers of the documents that match
 
@@ -232,9 +232,8 @@ module _ (s : Schema) (spans : List Span) (upto : ℕ) (task : DeleteTask) (le :
   abbrev matches : List DocField → Bool
   matches d = holds_query s d task.query && within_times s task.times d
 
-  drops_when : (d : Placed) (admitted : ℕ) → IsAdmitted spans upto (place_of d) admitted → (matches d.doc && nat_lt admitted task.opstamp) ≡ drops s spans upto d task
-  drops_when d admitted h =
-      ap₂ ◌&&◌ (and_swap (holds_query s d.doc task.query) (within_times s task.times d.doc)) (h task.opstamp le ∙ and_all (came_before spans (place_of d) task.opstamp) (nat_le task.opstamp upto) (le_true task.opstamp upto le))
+  drops_when : (d : Placed) → (matches d.doc && is_before spans task.opstamp d) ≡ drops s spans upto d task
+  drops_when d = ap₂ ◌&&◌ (and_swap (holds_query s d.doc task.query) (within_times s task.times d.doc)) (and_all (is_before spans task.opstamp d) (nat_le task.opstamp upto) (le-leb task.opstamp upto le))
     where
       and_swap : (a b : Bool) → (a && b) ≡ (b && a)
       and_swap true true = refl
@@ -246,21 +245,21 @@ module _ (s : Schema) (spans : List Span) (upto : ℕ) (task : DeleteTask) (le :
       and_all true b e = sym e
       and_all false b e = refl
 
-      le_true : (a b : ℕ) → a ≤ b → nat_le a b ≡ true
-      le_true a b le = le-leb a b le
-
-  drops_at : (ds : List Placed) (numbers : List ℕ) (k : ℕ) → AreAdmitted spans upto ds numbers → k < length ds → (holds (λ d. matches d.doc) ds k && nat_lt (slice_index numbers k) task.opstamp) ≡ holds (λ d. drops s spans upto d task) ds k
-  drops_at [] numbers k h lt = absurd (omega (arith, lt))
-  drops_at (d ∷ ds) [] k h lt = absurd h
-  drops_at (d ∷ ds) (n ∷ numbers) zero h lt = drops_when d n h.0
-  drops_at (d ∷ ds) (n ∷ numbers) (suc k) h lt = drops_at ds numbers k h.1 (omega (arith, lt))
+  drops_at : (ds : List Placed) (k : ℕ) → (holds (λ d. matches d.doc) ds k && holds (is_before spans task.opstamp) ds k) ≡ holds (λ d. drops s spans upto d task) ds k
+  drops_at [] k = refl
+  drops_at (d ∷ ds) zero = drops_when d
+  drops_at (d ∷ ds) (suc k) = drops_at ds k
 
   -- what was put in
-  pub drops_put : (ds : List Placed) (admitted numbers : List ℕ) (k : ℕ) (new old : Bool) → AreAdmitted spans upto ds admitted → k < length ds → numbers ≡ numbers_of (λ d. holds_query s d task.query && within_times s task.times d) ds →
-      new ≡ (old || (is_one_of k numbers && nat_lt (slice_index admitted k) task.opstamp)) → new ≡ (old || holds (λ d. drops s spans upto d task) ds k)
-  drops_put ds admitted numbers k new old h lt same e =
-      e ∙ ap (λ b. old || (b && nat_lt (slice_index admitted k) task.opstamp)) (ap (is_one_of k) same ∙ one_from (λ d. holds_query s d task.query && within_times s task.times d) 0 ds k k (omega arith))
-      ∙ ap (λ b. old || b) (drops_at ds admitted k h lt)
+  pub drops_put : (ds : List Placed) (numbers : List ℕ) (k : ℕ) (new old : Bool) → numbers ≡ numbers_of (λ d. holds_query s d task.query && within_times s task.times d) ds →
+      new ≡ (old || (is_one_of k numbers && holds (is_before spans task.opstamp) ds k)) → new ≡ (old || holds (λ d. drops s spans upto d task) ds k)
+  drops_put ds numbers k new old same e =
+      e ∙ ap (λ b. old || (b && holds (is_before spans task.opstamp) ds k)) (ap (is_one_of k) same ∙ one_from (λ d. holds_query s d task.query && within_times s task.times d) 0 ds k k (omega arith)) ∙ ap (λ b. old || b) (drops_at ds k)
+
+-- an answer that is always given
+pub always_given : {X E : Type 0} (r : Result X E) (P Q : X → Type 0) (R : E → Type 0) → IsOkAnd r P → ((x : X) → P x → Q x) → MatchResult r Q R
+always_given (Ok x) P Q R h f = f x h
+always_given (Err e) P Q R h f = absurd h
 
 -- ---- what several tasks drop
 

@@ -1,6 +1,6 @@
 -- Which documents of a planned row's file are dropped: those that a task removes whose records were taken in before it.
 use Rattle.std.specs.Prelude.{◌≡◌, ◌+◌, ◌<◌, ◌≤◌, ◌&&◌, ℕ, zero, suc, Bool, false, not, List, [], ◌∷◌, filter, length, min, nat_le, nat_lt}
-use Rattle.std.specs.List.{AllZip, list_any}
+use Rattle.std.specs.List.{list_any}
 use Rattle.delete_tasks.specs.Removed.{Place, lies_in}
 use Rattle.delete_tasks.specs.Removes.{DeleteTask, removes}
 use Rattle.doc_sets.specs.Bits.{has}
@@ -20,6 +20,10 @@ use Rattle.split_merge.specs.Keeping.{RiseFrom, kept}
 -- the record at a place was taken in before the task with this opstamp, by one of the spans
 abbrev pub came_before : List Span → Place → (opstamp : ℕ) → Bool
 came_before spans x opstamp = list_any (λ s. lies_in (range_of s) x && nat_lt s.admitted opstamp) spans
+
+-- and a document's
+abbrev pub is_before : List Span → (opstamp : ℕ) → Placed → Bool
+is_before spans opstamp x = came_before spans (place_of x) opstamp
 
 -- a task up to the last one removes the document, whose record was taken in before it
 abbrev pub drops : Schema → List Span → (upto : ℕ) → Placed → DeleteTask → Bool
@@ -42,9 +46,6 @@ place_at at = record { partition = at.partition; offset = at.offset }
 -- a number that tells before which tasks up to the last one that was
 abbrev pub IsAdmitted : List Span → (upto : ℕ) → Place → (admitted : ℕ) → Type 0
 IsAdmitted spans upto x admitted = (opstamp : ℕ) → opstamp ≤ upto → nat_lt admitted opstamp ≡ came_before spans x opstamp
-
-abbrev pub AreAdmitted : List Span → (upto : ℕ) → List Placed → List ℕ → Type 0
-AreAdmitted spans upto documents numbers = AllZip (λ d admitted. IsAdmitted spans upto (place_of d) admitted) documents numbers
 
 -- the least task behind which a record of these spans was taken in, and at most the last one: tasks up to it drop none
 abbrev pub least_of : (upto : ℕ) → List Span → ℕ

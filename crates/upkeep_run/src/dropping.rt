@@ -1,6 +1,6 @@
 //! Which documents of a planned row's file tasks drop, by the file's dictionary, lists and columns.
 
-ghost use Rattle.std.specs.Prelude.{◌≡◌, ◌≤◌, ◌==◌, ◌||◌, ◌&&◌, ◌<◌, ◌++◌, ◌∷◌, [], ℕ, List, length, nat_lt, slice_index, IfOk, MatchResult};
+ghost use Rattle.std.specs.Prelude.{◌≡◌, ◌≤◌, ◌==◌, ◌||◌, ◌&&◌, ◌<◌, ◌++◌, ◌∷◌, [], ℕ, List, length, nat_lt, IfOk, IsOkAnd, MatchResult};
 ghost use Rattle.std.specs.List.{All};
 ghost use Rattle.delete_tasks.specs.Removed.{lies_in};
 ghost use Rattle.doc_sets.specs.Bits.{has};
@@ -17,7 +17,7 @@ ghost use Rattle.split_bundle.specs.Splits.{IsSplit};
 ghost use Rattle.split_bundle.specs.Wholes.{HaveAll};
 ghost use Rattle.split_bundle.specs.declared.placed.Placed.{Placed};
 ghost use Rattle.split_merge.specs.Keeping.{RiseFrom};
-ghost use Rattle.upkeep_run.specs.Dropping.{AreAdmitted, AreAsked, HasDropped, IsAdmitted, IsDropSet, drops, holds, least_of, place_at};
+ghost use Rattle.upkeep_run.specs.Dropping.{AreAsked, HasDropped, IsAdmitted, IsDropSet, drops, holds, is_before, least_of, place_at};
 
 use delete_tasks::Task;
 use doc_sets::{DocBits, LeafError};
@@ -67,25 +67,6 @@ fn admitted_at(spans: &[Span], upto: u64, at: &Address) -> u64
     admitted
 }
 
-// Behind which tasks the records of a view's documents were taken in. No document is read.
-fn admissions(
-    alloc: Global,
-    spans: &[Span],
-    upto: u64,
-    view: &PartView<'_>,
-) -> Result<Vec<u64>, LeafError>
-    ensures many { IfOk result (λ list. length list.items ≡ view.now.footer.layout.docs) }
-    ensures there { (s : Schema) (documents : List Placed) (p : Parts) → IsPartOf view.now s documents p → HaveAll (file_bytes p) view.now.pieces →
-        MatchResult result (λ list. AreAdmitted spans.now upto documents list.items) IsMemory }
-{
-    let mut list = Vec::new(alloc);
-    for doc in 0..view.doc_count() {
-        let at = view.address(doc)?;
-        list.push(admitted_at(spans, upto, &at))?;
-    }
-    Ok(list)
-}
-
 // Puts a document in whose record was taken in before a task.
 fn put_before(number: u32, admitted: u64, opstamp: u64, bits: &mut DocBits)
     requires { number < bits.old.size }
@@ -97,42 +78,52 @@ fn put_before(number: u32, admitted: u64, opstamp: u64, bits: &mut DocBits)
     }
 }
 
-// Puts those of some documents in whose records were taken in before a task.
-fn put_each(numbers: &[u32], admitted: &[u64], opstamp: u64, bits: &mut DocBits)
-    requires below { All (λ n. n < bits.old.size) numbers.now }
-    requires many { length admitted.now ≡ bits.old.size }
+// Puts those of some documents of a view in whose records were taken in before a task up to the last. Of no other document the
+// address is read.
+fn put_each(
+    numbers: &[u32],
+    spans: &[Span],
+    upto: u64,
+    opstamp: u64,
+    view: &PartView<'_>,
+    bits: &mut DocBits,
+) -> Result<(), LeafError>
+    requires below { All (λ n. n < view.now.footer.layout.docs) numbers.now }
+    requires size { bits.old.size ≡ view.now.footer.layout.docs }
+    requires task { opstamp ≤ upto }
     ensures size { bits.new.size ≡ bits.old.size }
-    ensures has { (k : ℕ) → has bits.new k ≡ (has bits.old k || (is_one_of k numbers.now && nat_lt (slice_index admitted.now k) opstamp)) }
+    // Of a split of documents, where the pieces have every part of the file, nothing is wanting.
+    ensures there { (s : Schema) (documents : List Placed) (p : Parts) → IsPartOf view.now s documents p → HaveAll (file_bytes p) view.now.pieces →
+        IsOkAnd result (λ _. (k : ℕ) → has bits.new k ≡ (has bits.old k || (is_one_of k numbers.now && holds (is_before spans.now opstamp) documents k))) }
 {
     for number in numbers {
-        put_before(*number, admitted[*number as usize], opstamp, bits);
+        let at = view.address(*number)?;
+        put_before(*number, admitted_at(spans, upto, &at), opstamp, bits);
     }
+    Ok(())
 }
 
 // Puts in what a task drops, if it is one up to the last.
 fn put_dropped(
     alloc: Global,
     schema: &Schema,
+    spans: &[Span],
     task: &Task,
     upto: u64,
-    admitted: &[u64],
     view: &PartView<'_>,
     bits: &mut DocBits,
 ) -> Result<(), LeafError>
     requires fields { length schema.now.fields ≤ 256 }
     requires size { bits.old.size ≡ view.now.footer.layout.docs }
-    requires many { length admitted.now ≡ view.now.footer.layout.docs }
     ensures size { bits.new.size ≡ bits.old.size }
-    ensures there { (spans : List Span) (documents : List Placed) (p : Parts) → IsPartOf view.now schema.now documents p → HaveAll (file_bytes p) view.now.pieces → CanAsk schema.now task.now.query →
-        AreAdmitted spans upto documents admitted.now →
-        MatchResult result (λ _. (k : ℕ) → k < length documents → has bits.new k ≡ (has bits.old k || holds (λ d. drops schema.now spans upto d task.now) documents k)) IsMemory }
+    ensures there { (documents : List Placed) (p : Parts) → IsPartOf view.now schema.now documents p → HaveAll (file_bytes p) view.now.pieces → CanAsk schema.now task.now.query →
+        MatchResult result (λ _. (k : ℕ) → k < length documents → has bits.new k ≡ (has bits.old k || holds (λ d. drops schema.now spans.now upto d task.now) documents k)) IsMemory }
 {
     if upto < task.opstamp {
         return Ok(());
     }
     let numbers = matching_numbers(alloc, schema, &task.query, task.times, view)?;
-    put_each(numbers.as_slice(), admitted, task.opstamp, bits);
-    Ok(())
+    put_each(numbers.as_slice(), spans, upto, task.opstamp, view, bits)
 }
 
 // The numbers of a set, as places.
@@ -161,18 +152,9 @@ fn dropped_in(
     ensures there { (documents : List Placed) (p : Parts) → IsPartOf view.now schema.now documents p → HaveAll (file_bytes p) view.now.pieces → AreAsked schema.now tasks.now →
         MatchResult result (HasDropped schema.now spans.now tasks.now upto documents) IsMemory }
 {
-    let admitted = admissions(alloc, spans, upto, view)?;
     let mut bits = DocBits::vacant(alloc, view.doc_count())?;
     for task in tasks {
-        put_dropped(
-            alloc,
-            schema,
-            task,
-            upto,
-            admitted.as_slice(),
-            view,
-            &mut bits,
-        )?;
+        put_dropped(alloc, schema, spans, task, upto, view, &mut bits)?;
     }
     Ok(bits)
 }
