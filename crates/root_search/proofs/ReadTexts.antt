@@ -1,22 +1,14 @@
 -- What was read of a text is what it asks.
-use Rattle.std.proofs.Common.{◌≡◌, ℕ, List, ap, ap₂, ◌∙◌, Result, Ok}
+use Rattle.std.proofs.Common.{◌≡◌, ℕ, List, ap, ap₂, Result, Ok}
 use Rattle.doc_value.specs.declared.facts.TimeRange.{TimeRange}
-use Rattle.doc_value.specs.declared.schema.Schema.{Schema}
 use Rattle.index_config.specs.declared.config.IndexConfig.{IndexConfig}
 use Rattle.index_world.specs.declared.tokens.DeleteAsk.{DeleteAsk}
 use Rattle.search_api.specs.Kinds.{◌>>=◌}
-use Rattle.search_api.specs.Resolved.{Asked, resolved, search_view, view}
+use Rattle.search_api.specs.Resolved.{resolved}
 use Rattle.search_api.specs.declared.request.Request.{Request}
 use Rattle.search_api.specs.declared.request_error.RequestError.{RequestError}
 use Rattle.search_api.specs.declared.resolved.Deletion.{Deletion}
-use Rattle.search_api.specs.declared.resolved.Resolved.{Resolved}
-use Rattle.search_api.specs.declared.resolved.Resolved.TheVariants as given
-use Rattle.search_api.specs.declared.resolved.SearchAsk.{SearchAsk}
-use Rattle.search_api.specs.declared.unanswered.Unanswered.{Unanswered}
-use Rattle.root_search.specs.ReadSearches.{IsRead, IsReadDelete, Reads}
 use Rattle.root_search.specs.Requests.{ask_of, read_or}
-use Rattle.root_search.specs.declared.reads.ReadRequest.TheVariants as reads
-use Rattle.root_search.specs.declared.reads.ReadSearch.{ReadSearch}
 
 -- a text that is a request asks what that asks of the schema
 pub asked_as : (config : IndexConfig) (r : Result Request RequestError) (request : Request) → r ≡ Ok request → (read_or r >>= resolved config.schema config.default_fields) ≡ resolved config.schema config.default_fields request

@@ -77,7 +77,7 @@ plan_core (Err trouble) (Err (reasons.Refused refusal)) client core = refusal_co
 plan_core (Err trouble) (Err (reasons.Memory e)) client core = refl
 
 -- a plan that found no memory answers nothing
-plan_short : (answer : Result ⊤ Trouble) (asked : Result Search Unanswered) (client : Client) (core : Core) → answer ≡ Err no_memory → (plan_by answer asked client core).outcome ≡ None
+pub plan_short : (answer : Result ⊤ Trouble) (asked : Result Search Unanswered) (client : Client) (core : Core) → answer ≡ Err no_memory → (plan_by answer asked client core).outcome ≡ None
 plan_short answer asked client core e = ap (λ (r : Result ⊤ Trouble). (plan_by r asked client core).outcome) e ∙ by asked
   where
     by : (r : Result Search Unanswered) → (plan_by (Err no_memory) r client core).outcome ≡ None

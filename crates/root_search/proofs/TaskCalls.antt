@@ -6,7 +6,7 @@ use Rattle.meta_journal.specs.declared.entry.Act.{Act}
 use Rattle.meta_journal.specs.declared.entry.Entry.{Entry}
 use Rattle.meta_store.specs.History.{at}
 use Rattle.meta_store.specs.declared.refusal.Refusal.{Refusal}
-use Rattle.index_world.specs.Calls.{Call, Effect, done_at_once, done_late, done_never, is_at_once, Fate, Gives, gives, Made, made, exists, failed, Trouble, Unmade, refused, troubled, adopted_made, all_landed, answer_behind, appended, and_then_by, as_unmade, asked_clock, asking, begun, create_at_end, entry_lands, entry_of, fence_of, file_lands, first_unless, full_answer, get_at_end, got_at, land_at, last_made, last_unless, made_at, made_behind, may_append, may_fail, no_memory, or_full, or_short, risen, settle_made, settle_with, settled, taken_unless, transact, tried, troubled_by, unless_short}
+use Rattle.index_world.specs.Calls.{Call, Effect, done_at_once, done_late, done_never, is_at_once, Fate, Gives, gives, Made, made, exists, failed, Trouble, Unmade, refused, troubled, adopted_made, all_landed, answer_behind, appended, and_then_by, asked_clock, asking, begun, create_at_end, entry_lands, entry_of, fence_of, file_lands, first_unless, full_answer, get_at_end, got_at, land_at, last_made, last_unless, made_at, made_behind, may_append, may_fail, no_memory, or_full, or_short, risen, settle_made, settle_with, settled, taken_unless, transact, tried, troubled_by, unless_short}
 use Rattle.index_world.specs.Core.{Core, Late, late_dead, late_entry, late_file, file_at}
 use Rattle.index_world.specs.Index.{max_entries}
 

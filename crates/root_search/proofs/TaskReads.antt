@@ -22,7 +22,7 @@ use Rattle.query_reader.specs.Resolve.{query_of}
 use Rattle.query_reader.specs.declared.refusal.QueryError.{QueryError}
 use Rattle.search_api.specs.Kinds.{◌>>=◌}
 use Rattle.search_api.specs.Requests.{request_of}
-use Rattle.search_api.specs.Resolved.{Asked, IsDelete, IsSearch, Search, delete_in, known, path_at, query_in, query_or, resolved, search_in, searched, searched_paths, timed}
+use Rattle.search_api.specs.Resolved.{IsDelete, IsSearch, Search, delete_in, known, path_at, query_in, query_or, resolved, search_in, searched, searched_paths, timed}
 use Rattle.search_api.specs.Resolved as asking
 use Rattle.search_api.specs.declared.reply.Refusal.TheVariants.{UnknownField}
 use Rattle.search_api.specs.declared.request.Request.{Request}

@@ -51,7 +51,7 @@ pub record Begins (s : Schema) (search : Search) (plan : Plan) (request : GivenR
   pub parts : planned.parts ≡ []
 
 -- What is answered where a text asks this and the gate answered so. A search is planned, and an error is replied as it is, over the client's front.
--- What asks no search is refused, over the revision of a plan of no rows, or over the front where there is none.
+-- A text that is refused is replied its refusal, over the revision of a plan of no rows, or over the front where there is none.
 abbrev pub SaysPlan : Schema → Result Search Unanswered → Choice → Result Plan WorldError → ℕ → GivenRequest → Result SearchStep AllocError → Type 0
 SaysPlan s (Ok search) choice (Ok plan) front request result =
     IsChoiceOf search.query search.times choice × (result ≡ Ok (Planned plan.revision (length plan.rows))) × Begins s search plan request

@@ -1,4 +1,4 @@
-use Rattle.std.proofs.Common.{ℕ, refl, ap, sym, subst, Ok, Err}
+use Rattle.std.proofs.Common.{ℕ, ap, subst, Ok, Err}
 use Rattle.index_world.specs.Calls.{Unmade}
 use Rattle.index_world.specs.Taking.{IsWant}
 use Rattle.meta_store.specs.History.{history, last_opstamp}

@@ -1,8 +1,8 @@
-use Rattle.std.proofs.Common.{◌≡◌, ap, refl, subst, sym, ◌∙◌, Ok, Err}
+use Rattle.std.proofs.Common.{ap, refl, subst, sym, ◌∙◌, Ok, Err}
 use Rattle.search_api.specs.Resolved.{IsDelete, IsSearch}
 use Rattle.search_api.specs.declared.unanswered.Unanswered.TheVariants.{Refused}
-use Rattle.root_search.specs.ReadSearches.{IsReadDelete, Reads}
-use Rattle.root_search.specs.Requests.{ask_of, asked_of}
+use Rattle.root_search.specs.ReadSearches.{Reads}
+use Rattle.root_search.specs.Requests.{asked_of}
 use Rattle.root_search.specs.StepPlans.{AddsUnlessShort}
 use Rattle.root_search.specs.declared.reads.ReadRequest.{ReadRequest}
 use Rattle.index_world.specs.declared.tokens.DeleteAsk.{DeleteAsk}
