@@ -30,7 +30,7 @@ use Rattle.split_bundle.specs.declared.pieces.FilePiece.{FilePiece}
 use Rattle.split_bundle.specs.Files.{Parts}
 use Rattle.split_bundle.specs.Lending.{LendsFast}
 use Rattle.doc_sets.specs.Bits.{has}
-use Rattle.doc_sets.specs.Faults.{HasCause, IsMemory}
+use Rattle.doc_sets.specs.Faults.{LacksPart, IsMemory}
 use Rattle.doc_sets.specs.Needed.{IsColumnFor, IsSearched}
 use Rattle.doc_sets.specs.Ranged.{begun_blocks, is_of, lies_in, some_is_of}
 use Rattle.doc_sets.specs.Sets.{IsSetOf, holds_at}
@@ -224,7 +224,7 @@ pub lent_column : (pieces : List FilePiece) (at len n : ℕ) (ds : List Placed) 
 lent_column pieces at len n ds o f r c here fast is h =
     (subst (λ (x : Option Field). LendsFast pieces at len n ds x (Ok (Some c))) here (subst (λ (x : Option Column). LendsFast pieces at len n ds o (Ok x)) is h)).1 fast
 
-only_memory : (asked : ℕ → ℕ → Type 0) (pieces : List FilePiece) (e : LeafError) → IsMemory e → HasCause asked pieces e
+only_memory : (asked : ℕ → ℕ → Type 0) (pieces : List FilePiece) (e : LeafError) → IsMemory e → LacksPart asked pieces e
 only_memory asked pieces (faults.Memory a) h = tt
 only_memory asked pieces (faults.Missing at) h = absurd h
 only_memory asked pieces (faults.Corrupt section) h = absurd h
@@ -248,7 +248,7 @@ module _ (v : PartView) (s : Schema) (ds : List Placed) (p : Parts) (is : IsSear
       (all_below f.kind low high ordered low_fits high_fits column.texts n 0 ds column.entries known column.are_entries)
 
   pub column_gives : (range : NumberRange) (r : Result DocBits LeafError) → range ≡ range_of f.kind low high → IfOk r (λ b. b.size ≡ v.footer.layout.docs) → MatchResult r (λ b. (k : ℕ) → has b k ≡ some_is_of range k column.entries) IsMemory
-      → MatchResult r (IsSetOf (λ d. between low high (values_in d n)) ds) (HasCause (IsColumnFor v s p n) v.pieces)
+      → MatchResult r (IsSetOf (λ d. between low high (values_in d n)) ds) (LacksPart (IsColumnFor v s p n) v.pieces)
   column_gives range (Ok b) same size h = record {
     size = size ∙ docs_are;
     each = λ k lt. h k ∙ (ap (λ r. some_is_of r k column.entries) same ∙ documents_are f.kind low high ordered low_fits high_fits column.texts n 0 k k ds column.entries known column.are_entries (omega arith));

@@ -15,7 +15,7 @@ use Rattle.doc_sets.specs.declared.dictionary_lookup.Lookup.TheVariants.{Documen
 use Rattle.doc_sets.specs.declared.leaf_error.LeafError.{LeafError}
 use Rattle.doc_sets.specs.Asking.{AsksBlocks, AsksLists, AsksLookups, LacksLookups}
 use Rattle.doc_sets.specs.Needed.{AsksKey, AsksOneOf, AsksPlaces, LacksKeys, LacksPlaces, token_keys}
-use Rattle.doc_sets.specs.Faults.{HasCause}
+use Rattle.doc_sets.specs.Faults.{LacksPart}
 use Rattle.doc_sets.specs.Texts.{item_lookups, lookups_for, text_lookups}
 use Rattle.doc_sets.specs.Walks.{AsksWalk}
 use Rattle.doc_sets.specs.declared.wanted.Wanted.{Wanted}
@@ -90,7 +90,7 @@ module _ (v : PartView) (s : Schema) (ds : List Placed) (p : Parts) where
   walk_looked prefix w at len (inl h) = inl (inl h)
   walk_looked prefix w at len (inr h) = inr (inl h)
 
-  pub walk_lacks_looked : (prefix : List ℕ) (w : Wanted) (e : LeafError) → HasCause (AsksWalk v s ds p prefix w) v.pieces e → LacksLookups v s ds p (Walk prefix w ∷ []) e
+  pub walk_lacks_looked : (prefix : List ℕ) (w : Wanted) (e : LeafError) → LacksPart (AsksWalk v s ds p prefix w) v.pieces e → LacksLookups v s ds p (Walk prefix w ∷ []) e
   walk_lacks_looked prefix w e h = cause_wider (AsksWalk v s ds p prefix w) (AsksLookups v s ds p (Walk prefix w ∷ [])) v.pieces e (walk_looked prefix w) h
 
   -- what is asked for of some of joined look-ups

@@ -19,7 +19,7 @@ use Rattle.split_bundle.specs.Lists.{has_key, keeps_places, places_of, posted, p
 use Rattle.split_bundle.specs.declared.pieces.FilePiece.{FilePiece}
 use Rattle.doc_sets.specs.declared.leaf_error.LeafError.{LeafError}
 use Rattle.doc_sets.specs.declared.leaf_error.LeafError.TheVariants as faults
-use Rattle.doc_sets.specs.Faults.{HasCause, IsMemory}
+use Rattle.doc_sets.specs.Faults.{LacksPart, IsMemory}
 use Rattle.doc_sets.specs.Seeking.{CanSeek, ArePassing}
 
 pub at_least : (a b : ℕ) → a ≤ b → nat_lt b a ≡ false
@@ -102,7 +102,7 @@ given_places (Ok u) items left places list rest p document mid now e here stands
 given_places (Err fault) items left places list rest p document mid now e here stands given same h = h
 
 -- want of memory is a cause
-pub memory_lacks : (asked : ℕ → ℕ → Type 0) (pieces : List FilePiece) (e : LeafError) → IsMemory e → HasCause asked pieces e
+pub memory_lacks : (asked : ℕ → ℕ → Type 0) (pieces : List FilePiece) (e : LeafError) → IsMemory e → LacksPart asked pieces e
 memory_lacks asked pieces (faults.Memory a) h = tt
 memory_lacks asked pieces (faults.Missing at) h = absurd h
 memory_lacks asked pieces (faults.Corrupt section) h = absurd h

@@ -17,7 +17,7 @@ use Rattle.doc_sets.specs.declared.wanted.NumberRange.{NumberRange}
 use Rattle.doc_sets.specs.declared.wanted.Wanted.{Wanted}
 use Rattle.doc_sets.specs.declared.wanted.Wanted.TheVariants.{Each, Within}
 use Rattle.doc_sets.specs.Asked.{such, begins}
-use Rattle.doc_sets.specs.Faults.{HasCause}
+use Rattle.doc_sets.specs.Faults.{LacksPart}
 use Rattle.doc_sets.specs.Needed.{IsSearched}
 use Rattle.doc_sets.specs.Sets.{IsSetOf}
 use Rattle.doc_sets.specs.Values.{AllHave64, EdgeHas64}
@@ -38,21 +38,21 @@ each_walked prefix os = such_alike (is_walked prefix Each) (λ key. starts_with 
 
 module _ (v : PartView) (s : Schema) (ds : List Placed) (p : Parts) (is : IsSearched v s ds p) (n : ℕ) (f : Field) (lt : n < 256) (got : slice_get s.fields n ≡ Some f) (on : f.indexed ≡ true) where
   abbrev Found : List ℕ → Wanted → Result DocBits LeafError → Type 0
-  Found prefix w r = MatchResult r (IsSetOf (λ d. such (is_walked prefix w) (keys_of s d)) ds) (HasCause (AsksWalk v s ds p prefix w) v.pieces)
+  Found prefix w r = MatchResult r (IsSetOf (λ d. such (is_walked prefix w) (keys_of s d)) ds) (LacksPart (AsksWalk v s ds p prefix w) v.pieces)
 
   pub prefix_walk : (u prefix : List ℕ) (r : Result DocBits LeafError) → is_text f.kind ≡ true → prefix ≡ field_key n u → Found prefix Each r
-      → MatchResult r (IsSetOf (λ d. some_has_prefix f u (values_in d n)) ds) (HasCause (AsksWalk v s ds p (field_key n u) Each) v.pieces)
+      → MatchResult r (IsSetOf (λ d. some_has_prefix f u (values_in d n)) ds) (LacksPart (AsksWalk v s ds p (field_key n u) Each) v.pieces)
   prefix_walk u prefix r kind same h =
-      let P : LeafError → Type 0 = HasCause (AsksWalk v s ds p (field_key n u) Each) v.pieces in
+      let P : LeafError → Type 0 = LacksPart (AsksWalk v s ds p (field_key n u) Each) v.pieces in
       gives_same (λ d. IsOfSchema s d.doc) P P r (λ d. such (is_walked (field_key n u) Each) (keys_of s d)) (λ d. some_has_prefix f u (values_in d n)) ds is.part.is_split.are_documents.of_schema
       (λ d of_schema. each_walked (field_key n u) (keys_of s d.doc) ∙ sym (prefix_is_begins s n f u d.doc got (omega (arith, lt)) on (texts_in s n f d.doc got kind of_schema)))
       (λ e cause. cause) (subst (λ k. Found k Each r) same h)
 
   pub range_walk : (low high : Edge) (prefix : List ℕ) (range : NumberRange) (r : Result DocBits LeafError) → has_order f.kind ≡ true → EdgeHas64 low → EdgeHas64 high → prefix ≡ field_key n [] → range ≡ range_of f.kind low high → Found prefix (Within range) r
-      → MatchResult r (IsSetOf (λ d. between low high (values_in d n)) ds) (HasCause (AsksWalk v s ds p (field_key n []) (Within (range_of f.kind low high))) v.pieces)
+      → MatchResult r (IsSetOf (λ d. between low high (values_in d n)) ds) (LacksPart (AsksWalk v s ds p (field_key n []) (Within (range_of f.kind low high))) v.pieces)
   range_walk low high prefix range r ordered low_fits high_fits same is_range h =
       let w : Wanted = Within (range_of f.kind low high) in
-      let P : LeafError → Type 0 = HasCause (AsksWalk v s ds p (field_key n []) w) v.pieces in
+      let P : LeafError → Type 0 = LacksPart (AsksWalk v s ds p (field_key n []) w) v.pieces in
       gives_same (λ d. IsOfSchema s d.doc × AllHave64 (values_in d.doc n)) P P r (λ d. such (is_walked (field_key n []) w) (keys_of s d)) (λ d. between low high (values_in d n)) ds
       (all_both (λ d. IsOfSchema s d.doc) (λ d. AllHave64 (values_in d.doc n)) ds is.part.is_split.are_documents.of_schema (is.typed n))
       (λ d known. range_is_such f.kind low high n (omega (arith, lt)) ordered low_fits high_fits s f d.doc got on (kinds_in s n f d.doc got known.0) known.1)

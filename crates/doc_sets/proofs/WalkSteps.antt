@@ -19,7 +19,7 @@ use Rattle.doc_sets.specs.declared.bits.DocBits.{DocBits}
 use Rattle.doc_sets.specs.declared.leaf_error.LeafError.{LeafError}
 use Rattle.doc_sets.specs.declared.wanted.Wanted.{Wanted}
 use Rattle.doc_sets.specs.Bits.{has}
-use Rattle.doc_sets.specs.Faults.{HasCause}
+use Rattle.doc_sets.specs.Faults.{LacksPart}
 use Rattle.doc_sets.specs.Needed.{IsListFor}
 use Rattle.doc_sets.specs.Sets.{holds_at, is_in, IsSetOf}
 use Rattle.doc_sets.specs.Walks.{takes, has_some_of, begun_in, IsListed, AsksIf, AsksTerms, AsksBlock, AsksWalk, IsWalked}
@@ -64,10 +64,10 @@ module _ (v : PartView) (s : Schema) (ds : List Placed) (p : Parts) (w : Wanted)
   wanted_asks key e at len asked = (e, asked)
 
   pub wanted_added : {X : Type 0} (r : Result X LeafError) (key : List ℕ) (test : List DocField → Bool) (b : DocBits) → takes w key ≡ true
-      → MatchResult r (λ x. IsSetOf (λ d. test d || has_key key (keys_of s d)) ds b) (HasCause (IsListFor v s ds p key) v.pieces)
-      → MatchResult r (λ x. IsSetOf (λ d. test d || (takes w key && has_key key (keys_of s d))) ds b) (HasCause (AsksIf v s ds p w key) v.pieces)
+      → MatchResult r (λ x. IsSetOf (λ d. test d || has_key key (keys_of s d)) ds b) (LacksPart (IsListFor v s ds p key) v.pieces)
+      → MatchResult r (λ x. IsSetOf (λ d. test d || (takes w key && has_key key (keys_of s d))) ds b) (LacksPart (AsksIf v s ds p w key) v.pieces)
   wanted_added r key test b e h =
-      result_alike (HasCause (IsListFor v s ds p key) v.pieces) (HasCause (AsksIf v s ds p w key) v.pieces) r (λ d. test d || has_key key (keys_of s d)) (λ d. test d || (takes w key && has_key key (keys_of s d))) ds b
+      result_alike (LacksPart (IsListFor v s ds p key) v.pieces) (LacksPart (AsksIf v s ds p w key) v.pieces) r (λ d. test d || has_key key (keys_of s d)) (λ d. test d || (takes w key && has_key key (keys_of s d))) ds b
       (λ d. ap (λ t. test d || (t && has_key key (keys_of s d))) (sym e))
       (λ fault cause. cause_wider (IsListFor v s ds p key) (AsksIf v s ds p w key) v.pieces fault (wanted_asks key e) cause) h
 
@@ -80,18 +80,18 @@ module _ (v : PartView) (s : Schema) (ds : List Placed) (p : Parts) (w : Wanted)
   term_asks [] (suc i) t rest e at len asked = absurd (cc)
   term_asks (u ∷ us) (suc i) t rest e at len asked = inr (term_asks us i t rest e at len asked)
 
-  pub term_lacks : (ts : List Term) (i : ℕ) (t : Term) (rest : List Term) (e : LeafError) → drop i ts ≡ t ∷ rest → HasCause (AsksIf v s ds p w t.key) v.pieces e → HasCause (AsksTerms v s ds p w ts) v.pieces e
+  pub term_lacks : (ts : List Term) (i : ℕ) (t : Term) (rest : List Term) (e : LeafError) → drop i ts ≡ t ∷ rest → LacksPart (AsksIf v s ds p w t.key) v.pieces e → LacksPart (AsksTerms v s ds p w ts) v.pieces e
   term_lacks ts i t rest e is cause = cause_wider (AsksIf v s ds p w t.key) (AsksTerms v s ds p w ts) v.pieces e (term_asks ts i t rest is) cause
 
   -- what is asked for of the terms of a block is asked for of the block
   pub block_terms_added : {X : Type 0} (r : Result X LeafError) (prefix : List ℕ) (number : ℕ) (test : List DocField → Bool) (b : DocBits)
-      → MatchResult r (λ x. IsSetOf (λ d. test d || has_some_of w (begun_in prefix (terms_of s ds p.keys) number) (keys_of s d)) ds b) (HasCause (AsksTerms v s ds p w (begun_in prefix (terms_of s ds p.keys) number)) v.pieces)
-      → MatchResult r (λ x. IsSetOf (λ d. test d || has_some_of w (begun_in prefix (terms_of s ds p.keys) number) (keys_of s d)) ds b) (HasCause (AsksBlock v s ds p prefix w number) v.pieces)
+      → MatchResult r (λ x. IsSetOf (λ d. test d || has_some_of w (begun_in prefix (terms_of s ds p.keys) number) (keys_of s d)) ds b) (LacksPart (AsksTerms v s ds p w (begun_in prefix (terms_of s ds p.keys) number)) v.pieces)
+      → MatchResult r (λ x. IsSetOf (λ d. test d || has_some_of w (begun_in prefix (terms_of s ds p.keys) number) (keys_of s d)) ds b) (LacksPart (AsksBlock v s ds p prefix w number) v.pieces)
   block_terms_added r prefix number test b h =
       let more : List DocField → Bool = λ d. test d || has_some_of w (begun_in prefix (terms_of s ds p.keys) number) (keys_of s d) in
       let Some : ℕ → ℕ → Type 0 = AsksTerms v s ds p w (begun_in prefix (terms_of s ds p.keys) number) in
       let All : ℕ → ℕ → Type 0 = AsksBlock v s ds p prefix w number in
-      result_alike (HasCause Some v.pieces) (HasCause All v.pieces) r more more ds b (λ d. refl) (λ e cause. cause_wider Some All v.pieces e (λ at len asked. inr asked) cause) h
+      result_alike (LacksPart Some v.pieces) (LacksPart All v.pieces) r more more ds b (λ d. refl) (λ e cause. cause_wider Some All v.pieces e (λ at len asked. inr asked) cause) h
 
   -- what is asked for of a block of a walk is asked for of the walk
   of_walk : (prefix : List ℕ) (number : ℕ) → IsWalked v prefix number → (at len : ℕ) → AsksBlock v s ds p prefix w number at len → AsksWalk v s ds p prefix w at len
@@ -99,7 +99,7 @@ module _ (v : PartView) (s : Schema) (ds : List Placed) (p : Parts) (w : Wanted)
   of_walk prefix number walked at len (inr l) = inr (number, walked, l)
 
   pub walk_lacks : (prefix : List ℕ) (start end number : ℕ) (e : LeafError) → AreBlocks v.footer.index prefix (λ first. is_below first prefix || starts_with nat_eq first prefix) start end → start ≤ number → number < end
-      → HasCause (AsksBlock v s ds p prefix w number) v.pieces e → HasCause (AsksWalk v s ds p prefix w) v.pieces e
+      → LacksPart (AsksBlock v s ds p prefix w number) v.pieces e → LacksPart (AsksWalk v s ds p prefix w) v.pieces e
   walk_lacks prefix start end number e blocks from until cause =
       cause_wider (AsksBlock v s ds p prefix w number) (AsksWalk v s ds p prefix w) v.pieces e
       (of_walk prefix number (record { start = start; end = end; blocks = blocks; from = from; until = until })) cause

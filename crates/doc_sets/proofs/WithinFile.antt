@@ -19,7 +19,7 @@ use Rattle.split_bundle.proofs.SectionBytes.{section_within}
 use Rattle.doc_sets.specs.declared.leaf_error.LeafError.{LeafError}
 use Rattle.doc_sets.specs.declared.leaf_error.LeafError.TheVariants as faults
 use Rattle.doc_sets.specs.declared.wanted.Wanted.{Wanted}
-use Rattle.doc_sets.specs.Faults.{HasCause, IsMemory}
+use Rattle.doc_sets.specs.Faults.{LacksPart, IsMemory}
 use Rattle.doc_sets.specs.declared.dictionary_lookup.Lookup.{Lookup}
 use Rattle.doc_sets.specs.declared.dictionary_lookup.Lookup.TheVariants.{Count, Documents, Places, Values, Walk}
 use Rattle.doc_sets.specs.Asking.{AsksBlockOf, AsksListOf, AsksLookups}
@@ -95,7 +95,7 @@ module _ (v : PartView) (s : Schema) (ds : List Placed) (p : Parts) (part : IsPa
   lookups_within (l ∷ ls) at len (inr (inr asked)) = lookups_within ls at len (inr asked)
 
 -- where the pieces have all of the file, want of memory is the one cause
-pub only_memory : (A : ℕ → ℕ → Type 0) (file : List ℕ) (pieces : List FilePiece) (e : LeafError) → ((at len : ℕ) → A at len → at + len ≤ length file) → HaveAll file pieces → HasCause A pieces e → IsMemory e
+pub only_memory : (A : ℕ → ℕ → Type 0) (file : List ℕ) (pieces : List FilePiece) (e : LeafError) → ((at len : ℕ) → A at len → at + len ≤ length file) → HaveAll file pieces → LacksPart A pieces e → IsMemory e
 only_memory A file pieces (faults.Memory a) within all cause = tt
 only_memory A file pieces (faults.Missing at) within all cause =
     let there = all at cause.0 (within at cause.0 cause.1) in

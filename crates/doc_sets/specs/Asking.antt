@@ -7,7 +7,7 @@ use Rattle.split_bundle.specs.Files.{Parts}
 use Rattle.doc_sets.specs.declared.leaf_error.LeafError.{LeafError}
 use Rattle.doc_sets.specs.declared.dictionary_lookup.Lookup.{Lookup}
 use Rattle.doc_sets.specs.declared.dictionary_lookup.Lookup.TheVariants.{Count, Documents, Places, Values, Walk}
-use Rattle.doc_sets.specs.Faults.{HasCause}
+use Rattle.doc_sets.specs.Faults.{LacksPart}
 use Rattle.doc_sets.specs.Needed.{IsBlockFor, IsColumnFor, IsListFor, ArePlacesFor}
 use Rattle.doc_sets.specs.Walks.{AsksWalkBlock, AsksWalkList}
 
@@ -41,4 +41,4 @@ AsksLookups v s documents p ls at len = AsksBlocks v s documents p ls at len ⊎
 
 -- want of memory, or that no piece has a part that is asked for
 abbrev pub LacksLookups : PartView → Schema → List Placed → Parts → List Lookup → LeafError → Type 0
-LacksLookups v s documents p ls e = HasCause (AsksLookups v s documents p ls) v.pieces e
+LacksLookups v s documents p ls e = LacksPart (AsksLookups v s documents p ls) v.pieces e

@@ -16,10 +16,10 @@ fault_of (splits.BadSection number) = Corrupt number
 fault_of (splits.BadVersion number) = Corrupt 6
 
 -- want of memory, or a part that is asked for and that no piece has
-abbrev pub HasCause : (ℕ → ℕ → Type 0) → List FilePiece → LeafError → Type 0
-HasCause asked pieces (Memory a) = Unit {0}
-HasCause asked pieces (Missing at) = (len : ℕ) × asked at len × (held_in pieces at len ≡ None)
-HasCause asked pieces (Corrupt section) = ⊥
+abbrev pub LacksPart : (ℕ → ℕ → Type 0) → List FilePiece → LeafError → Type 0
+LacksPart asked pieces (Memory a) = Unit {0}
+LacksPart asked pieces (Missing at) = (len : ℕ) × asked at len × (held_in pieces at len ≡ None)
+LacksPart asked pieces (Corrupt section) = ⊥
 
 abbrev pub IsMemory : LeafError → Type 0
 IsMemory (Memory a) = Unit {0}

@@ -15,7 +15,7 @@ use Rattle.split_bundle.specs.Lists.{keeps_places, terms_of}
 use Rattle.split_bundle.specs.Lending.{IsPartOf, block_place, length_of_column, start_of_column}
 use Rattle.doc_sets.specs.Asked.{AllNear}
 use Rattle.doc_sets.specs.Values.{AllHave64}
-use Rattle.doc_sets.specs.Faults.{HasCause}
+use Rattle.doc_sets.specs.Faults.{LacksPart}
 use Rattle.doc_sets.specs.declared.leaf_error.LeafError.{LeafError}
 use Rattle.split_bundle.specs.Keys.{field_key}
 use Rattle.text_tokens.specs.declared.tokens.Token.{Token}
@@ -84,11 +84,11 @@ AsksOneOf asked (key ∷ keys) at len = asked key at len ⊎ AsksOneOf asked key
 
 -- want of memory, or that no piece has a part that is asked for of these keys
 abbrev pub LacksKeys : PartView → Schema → List Placed → Parts → List (List ℕ) → LeafError → Type 0
-LacksKeys v s documents p keys e = HasCause (AsksOneOf (AsksKey v s documents p) keys) v.pieces e
+LacksKeys v s documents p keys e = LacksPart (AsksOneOf (AsksKey v s documents p) keys) v.pieces e
 
 -- the same where their places are looked up
 abbrev pub LacksPlaces : PartView → Schema → List Placed → Parts → List (List ℕ) → LeafError → Type 0
-LacksPlaces v s documents p keys e = HasCause (AsksOneOf (AsksPlaces v s documents p) keys) v.pieces e
+LacksPlaces v s documents p keys e = LacksPart (AsksOneOf (AsksPlaces v s documents p) keys) v.pieces e
 
 -- the keys of some tokens of a field
 abbrev pub token_keys : ℕ → List Token → List (List ℕ)

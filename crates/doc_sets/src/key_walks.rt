@@ -15,7 +15,7 @@ ghost use Rattle.split_bundle.specs.Files.{Parts};
 ghost use Rattle.split_bundle.specs.Keys.{field_key, keys_of};
 ghost use Rattle.split_bundle.specs.Lists.{has_key, keeps_places, terms_of};
 ghost use Rattle.doc_sets.specs.Asked.{such};
-ghost use Rattle.doc_sets.specs.Faults.{HasCause};
+ghost use Rattle.doc_sets.specs.Faults.{LacksPart};
 ghost use Rattle.doc_sets.specs.Needed.{IsListFor, IsSearched};
 ghost use Rattle.doc_sets.specs.Reads.{HasReadBy, PutsRead, ReadsAll, ReadsBlock, ReadsWalk, numbers_at, numbers_if, terms_read};
 ghost use Rattle.doc_sets.specs.Sets.{IsSetOf};
@@ -48,7 +48,7 @@ fn add_term(
     ensures size { bits.new.size ≡ bits.old.size }
     ensures only { (s : Schema) (documents : List Placed) (p : Parts) (key : List ℕ) (test : List DocField → Bool) → IsSearched part.now s documents p
         → lookup key (terms_of s documents p.keys) ≡ Some info.now → positions ≡ keeps_places s key → IsSetOf test documents bits.old
-        → MatchResult result (λ u. IsSetOf (λ d. test d || has_key key (keys_of s d)) documents bits.new) (HasCause (IsListFor part.now s documents p key) part.now.pieces) }
+        → MatchResult result (λ u. IsSetOf (λ d. test d || has_key key (keys_of s d)) documents bits.new) (LacksPart (IsListFor part.now s documents p key) part.now.pieces) }
     // Over any bytes.
     ensures exact { bits.old.size ≡ part.now.footer.layout.docs → PutsRead bits.old bits.new result (numbers_at part.now positions info.now) }
 {
@@ -68,7 +68,7 @@ fn add_if_wanted(
     ensures size { bits.new.size ≡ bits.old.size }
     ensures only { (s : Schema) (documents : List Placed) (p : Parts) (test : List DocField → Bool) → IsSearched part.now s documents p
         → lookup key.now (terms_of s documents p.keys) ≡ Some info.now → positions ≡ keeps_places s key.now → IsSetOf test documents bits.old
-        → MatchResult result (λ u. IsSetOf (λ d. test d || (takes wanted key.now && has_key key.now (keys_of s d))) documents bits.new) (HasCause (AsksIf part.now s documents p wanted key.now) part.now.pieces) }
+        → MatchResult result (λ u. IsSetOf (λ d. test d || (takes wanted key.now && has_key key.now (keys_of s d))) documents bits.new) (LacksPart (AsksIf part.now s documents p wanted key.now) part.now.pieces) }
     ensures exact { bits.old.size ≡ part.now.footer.layout.docs → PutsRead bits.old bits.new result (numbers_if part.now positions wanted (record { key = key.now; info = info.now })) }
 {
     if wanted.takes(key) {
@@ -89,7 +89,7 @@ fn add_terms(
     ensures size { bits.new.size ≡ bits.old.size }
     ensures only { (s : Schema) (documents : List Placed) (p : Parts) (lent : List Term) (test : List DocField → Bool) → IsSearched part.now s documents p
         → Lends terms.entry lent → length lent ≤ 64 → AllByRecursion (IsListed s documents p positions) lent → IsSetOf test documents bits.old
-        → MatchResult result (λ u. IsSetOf (λ d. test d || has_some_of wanted lent (keys_of s d)) documents bits.new) (HasCause (AsksTerms part.now s documents p wanted lent) part.now.pieces) }
+        → MatchResult result (λ u. IsSetOf (λ d. test d || has_some_of wanted lent (keys_of s d)) documents bits.new) (LacksPart (AsksTerms part.now s documents p wanted lent) part.now.pieces) }
     ensures exact { bits.old.size ≡ part.now.footer.layout.docs → PutsRead bits.old bits.new result
         (terms_read (numbers_if part.now positions wanted) 65 (is_before_end terms.entry.end) terms.entry.area.now terms.entry.at) }
 {
@@ -125,7 +125,7 @@ fn add_block(
     ensures only { (s : Schema) (documents : List Placed) (p : Parts) (test : List DocField → Bool) → IsSearched part.now s documents p
         → ((key : List ℕ) → starts_with nat_eq key prefix.now ≡ true → positions ≡ keeps_places s key) → IsSetOf test documents bits.old
         → MatchResult result (λ u. IsSetOf (λ d. test d || has_some_of wanted (begun_in prefix.now (terms_of s documents p.keys) number) (keys_of s d)) documents bits.new)
-        (HasCause (AsksBlock part.now s documents p prefix.now wanted number) part.now.pieces) }
+        (LacksPart (AsksBlock part.now s documents p prefix.now wanted number) part.now.pieces) }
     ensures exact { bits.old.size ≡ part.now.footer.layout.docs
         → (read : Result (List ℕ) Fault) × ReadsBlock part.now (numbers_if part.now positions wanted) prefix.now number read × PutsRead bits.old bits.new result read }
 {
@@ -156,7 +156,7 @@ fn walk_documents(
     ensures size { IfOk result (λ b. b.size ≡ part.now.footer.layout.docs) }
     ensures only { (s : Schema) (documents : List Placed) (p : Parts) → IsSearched part.now s documents p
         → ((key : List ℕ) → starts_with nat_eq key prefix.now ≡ true → positions ≡ keeps_places s key)
-        → MatchResult result (IsSetOf (λ d. such (is_walked prefix.now wanted) (keys_of s d)) documents) (HasCause (AsksWalk part.now s documents p prefix.now wanted) part.now.pieces) }
+        → MatchResult result (IsSetOf (λ d. such (is_walked prefix.now wanted) (keys_of s d)) documents) (LacksPart (AsksWalk part.now s documents p prefix.now wanted) part.now.pieces) }
     // Over any bytes: the numbers that the lists of the wanted keys give, or the fault that is met.
     ensures exact { HasReadBy (ReadsWalk part.now (numbers_if part.now positions wanted) prefix.now) result }
 {
@@ -183,7 +183,7 @@ pub fn prefix_documents(
     ensures only { (s : Schema) (documents : List Placed) (p : Parts) → IsSearched part.now s documents p → slice_get s.fields number ≡ Some field.now
         → field.now.indexed ≡ true → is_text field.now.kind ≡ true
         → MatchResult result (IsSetOf (λ d. some_has_prefix field.now (prefix_text field.now text.now) (values_in d number)) documents)
-        (HasCause (AsksWalk part.now s documents p (field_key number (prefix_text field.now text.now)) Each) part.now.pieces) }
+        (LacksPart (AsksWalk part.now s documents p (field_key number (prefix_text field.now text.now)) Each) part.now.pieces) }
     ensures reads { ReadsAll part.now (Walk (field_key number (prefix_text field.now text.now)) Each ∷ []) result }
 {
     let folded = folded_prefix(alloc, field, text)?;
@@ -218,7 +218,7 @@ pub(crate) fn walked_range(
     ensures only { (s : Schema) (documents : List Placed) (p : Parts) → IsSearched part.now s documents p → slice_get s.fields number ≡ Some field.now
         → field.now.indexed ≡ true → has_order field.now.kind ≡ true
         → MatchResult result (IsSetOf (λ d. between low.now high.now (values_in d number)) documents)
-        (HasCause (AsksWalk part.now s documents p (field_key number []) (Within (range_of field.now.kind low.now high.now))) part.now.pieces) }
+        (LacksPart (AsksWalk part.now s documents p (field_key number []) (Within (range_of field.now.kind low.now high.now))) part.now.pieces) }
     ensures reads { ReadsAll part.now (Walk (field_key number []) (Within (range_of field.now.kind low.now high.now)) ∷ []) result }
 {
     edge_has_64(low);

@@ -9,7 +9,7 @@ ghost use Rattle.split_bundle.specs.Files.{Parts};
 ghost use Rattle.split_bundle.specs.Lending.{block_in};
 ghost use Rattle.split_bundle.specs.Keys.{keys_of};
 ghost use Rattle.split_bundle.specs.Lists.{has_key, keeps_places, terms_of};
-ghost use Rattle.doc_sets.specs.Faults.{HasCause};
+ghost use Rattle.doc_sets.specs.Faults.{LacksPart};
 ghost use Rattle.doc_sets.specs.Needed.{IsBlockFor, IsSearched, LacksKeys};
 ghost use Rattle.doc_sets.specs.Reads.{Finds, FindsIn, HasRead, ReadsKey, numbers_at};
 ghost use Rattle.doc_sets.specs.Sets.{IsSetOf};
@@ -31,7 +31,7 @@ pub fn term_at(
 ) -> Result<Option<TermInfo>, LeafError>
     requires { index.now ≡ part.now.footer.index }
     ensures only { (s : Schema) (documents : List Placed) (p : Parts) → IsSearched part.now s documents p
-        → MatchResult result (λ found. found ≡ lookup key.now (terms_of s documents p.keys)) (HasCause (IsBlockFor part.now s documents p key.now) part.now.pieces) }
+        → MatchResult result (λ found. found ≡ lookup key.now (terms_of s documents p.keys)) (LacksPart (IsBlockFor part.now s documents p key.now) part.now.pieces) }
     // Over any bytes: what the block of the key has at it, or the fault that is met.
     ensures exact { Finds part.now key.now result }
 {
@@ -50,7 +50,7 @@ pub fn term_at(
 fn term_in(part: &PartView, number: u32, key: &[u8]) -> Result<Option<TermInfo>, LeafError>
     requires { number < length part.now.footer.index }
     ensures only { (s : Schema) (documents : List Placed) (p : Parts) → IsSearched part.now s documents p → IsBlockOf part.now.footer.index key.now (Some number)
-        → MatchResult result (λ found. found ≡ lookup key.now (block_terms (terms_of s documents p.keys) number)) (HasCause (IsBlockFor part.now s documents p key.now) part.now.pieces) }
+        → MatchResult result (λ found. found ≡ lookup key.now (block_terms (terms_of s documents p.keys) number)) (LacksPart (IsBlockFor part.now s documents p key.now) part.now.pieces) }
     ensures exact { FindsIn key.now (block_in part.now.footer.layout.sections part.now.pieces part.now.footer.index number) result }
 {
     let block = part.block(number)?;

@@ -12,7 +12,7 @@ ghost use Rattle.split_bundle.specs.Files.{Parts};
 ghost use Rattle.split_bundle.specs.Keys.{field_key};
 ghost use Rattle.doc_sets.specs.Asking.{LacksLookups};
 ghost use Rattle.doc_sets.specs.Bits.{has};
-ghost use Rattle.doc_sets.specs.Faults.{HasCause, IsMemory};
+ghost use Rattle.doc_sets.specs.Faults.{LacksPart, IsMemory};
 ghost use Rattle.doc_sets.specs.Needed.{IsColumnFor, IsSearched};
 ghost use Rattle.doc_sets.specs.Ranged.{begun_blocks, by_column, document_if, documents_from, is_of, range_lookup, some_is_of};
 ghost use Rattle.doc_sets.specs.Reads.{HasReadBy, PutsValues, ReadsAll, ReadsColumn, numbers_within};
@@ -152,7 +152,7 @@ fn column_documents(
     requires ordered { has_order field.now.kind ≡ true }
     ensures size { IfOk result (λ b. b.size ≡ part.now.footer.layout.docs) }
     ensures only { (documents : List Placed) (p : Parts) → IsSearched part.now schema.now documents p
-        → MatchResult result (IsSetOf (λ d. between low.now high.now (values_in d number)) documents) (HasCause (IsColumnFor part.now schema.now p number) part.now.pieces) }
+        → MatchResult result (IsSetOf (λ d. between low.now high.now (values_in d number)) documents) (LacksPart (IsColumnFor part.now schema.now p number) part.now.pieces) }
     // Over any bytes: the documents of the column's values that are in the range, or the fault that is met.
     ensures exact { HasReadBy (ReadsColumn part.now number (range_of field.now.kind low.now high.now)) result }
     ensures reads { ReadsAll part.now (Values number (range_of field.now.kind low.now high.now) ∷ []) result }

@@ -16,12 +16,12 @@ use Rattle.doc_tallies.specs.Near.{shown}
 use Rattle.doc_tallies.specs.Orders.{sort_field}
 
 -- want of memory, or a part that is asked for, by its start and its length, and that no piece has
-abbrev pub HasCause : (ℕ → ℕ → Type 0) → List FilePiece → SplitError → Type 0
-HasCause asked pieces (Memory a) = ⊤
-HasCause asked pieces BadMagic = ⊥
-HasCause asked pieces (Truncated at) = (len : ℕ) × asked at len × (held_in pieces at len ≡ None)
-HasCause asked pieces (BadSection number) = ⊥
-HasCause asked pieces (BadVersion number) = ⊥
+abbrev pub LacksPart : (ℕ → ℕ → Type 0) → List FilePiece → SplitError → Type 0
+LacksPart asked pieces (Memory a) = ⊤
+LacksPart asked pieces BadMagic = ⊥
+LacksPart asked pieces (Truncated at) = (len : ℕ) × asked at len × (held_in pieces at len ≡ None)
+LacksPart asked pieces (BadSection number) = ⊥
+LacksPart asked pieces (BadVersion number) = ⊥
 
 -- where the section of columns starts in the file
 abbrev pub columns_start : Sections → ℕ

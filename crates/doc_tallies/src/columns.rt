@@ -11,7 +11,7 @@ ghost use Rattle.split_bundle.specs.Files.{Parts, file_bytes};
 ghost use Rattle.split_bundle.specs.Lending.{IsPartOf};
 ghost use Rattle.split_bundle.specs.Wholes.{HaveAll, IsThere};
 ghost use Rattle.doc_tallies.specs.AggColumns.{AreColumnsFor, AsksColumns, HasValuesOf};
-ghost use Rattle.doc_tallies.specs.Causes.{HasCause};
+ghost use Rattle.doc_tallies.specs.Causes.{LacksPart};
 ghost use Rattle.doc_tallies.specs.Cells.{IsFast};
 
 use crate::column_values::values_at;
@@ -42,7 +42,7 @@ pub(crate) fn open_columns<'a>(
     fields: &[u32],
 ) -> Result<Vec<FieldColumn<'a>>, SplitError>
     ensures only { (documents : List Placed) (p : Parts) → IsPartOf view.now schema.now documents p → All (IsFast schema.now) fields.now
-        → MatchResult result (λ columns. AreColumnsFor schema.now documents fields.now columns.items) (HasCause (AsksColumns view.now p fields.now) view.now.pieces) }
+        → MatchResult result (λ columns. AreColumnsFor schema.now documents fields.now columns.items) (LacksPart (AsksColumns view.now p fields.now) view.now.pieces) }
     ensures there { (documents : List Placed) (p : Parts) → IsPartOf view.now schema.now documents p → HaveAll (file_bytes p) view.now.pieces → IsThere result }
 {
     let mut columns = Vec::new(alloc);

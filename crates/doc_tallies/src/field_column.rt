@@ -5,7 +5,7 @@ ghost use Rattle.split_bundle.specs.declared.placed.Placed.{Placed};
 ghost use Rattle.split_bundle.specs.Files.{Parts, file_bytes};
 ghost use Rattle.split_bundle.specs.Lending.{IsPartOf};
 ghost use Rattle.split_bundle.specs.Wholes.{HaveAll};
-ghost use Rattle.doc_tallies.specs.Causes.{AsksColumn, HasCause};
+ghost use Rattle.doc_tallies.specs.Causes.{AsksColumn, LacksPart};
 ghost use Rattle.doc_tallies.specs.Cells.{IsColumnFor, IsFast};
 
 use doc_value::{Kind, Schema};
@@ -27,7 +27,7 @@ pub(crate) fn open_column<'a>(
     number: u32,
 ) -> Result<Option<FieldColumn<'a>>, SplitError>
     ensures only { (documents : List Placed) (p : Parts) → IsPartOf view.now schema.now documents p → IsFast schema.now number
-        → MatchResult result (λ o. IsSomeAnd o (IsColumnFor schema.now documents number)) (HasCause (AsksColumn view.now p number) view.now.pieces) }
+        → MatchResult result (λ o. IsSomeAnd o (IsColumnFor schema.now documents number)) (LacksPart (AsksColumn view.now p number) view.now.pieces) }
     ensures there { (documents : List Placed) (p : Parts) → IsPartOf view.now schema.now documents p → HaveAll (file_bytes p) view.now.pieces → IsOk result }
 {
     if number as usize >= schema.fields.len() {

@@ -8,7 +8,7 @@ ghost use Rattle.split_bundle.specs.Files.{Parts, file_bytes};
 ghost use Rattle.split_bundle.specs.Lending.{IsPartOf};
 ghost use Rattle.split_bundle.specs.Wholes.{HaveAll, IsThere};
 ghost use Rattle.doc_tallies.specs.Bars.{HasBar};
-ghost use Rattle.doc_tallies.specs.Causes.{AsksDocuments, AsksHits, HasCause, LacksDocument};
+ghost use Rattle.doc_tallies.specs.Causes.{AsksDocuments, AsksHits, LacksPart, LacksDocument};
 ghost use Rattle.doc_tallies.specs.Near.{shown};
 ghost use Rattle.doc_tallies.specs.Orders.{IsSortable, firsts};
 ghost use Rattle.doc_tallies.specs.Orders as orders;
@@ -107,7 +107,7 @@ fn hits_among(
 ) -> Result<PlacedList, SplitError>
     requires { AllBelow view.now.footer.layout.docs numbers.now }
     ensures only { (documents : List Placed) (p : Parts) → IsPartOf view.now schema.now documents p
-        → MatchResult result (λ hits. hits ≡ firsts wanted order (picked numbers.now documents)) (HasCause (AsksDocuments p documents numbers.now) view.now.pieces) }
+        → MatchResult result (λ hits. hits ≡ firsts wanted order (picked numbers.now documents)) (LacksPart (AsksDocuments p documents numbers.now) view.now.pieces) }
     ensures there { (documents : List Placed) (p : Parts) → IsPartOf view.now schema.now documents p → HaveAll (file_bytes p) view.now.pieces → IsThere result }
 {
     let mut kept = Vec::new(alloc);
@@ -162,7 +162,7 @@ fn keep_there(
     requires below { number < view.now.footer.layout.docs }
     requires bar { OnTrue full (HasBar (orders.comes_before None) wanted kept.old.items) }
     ensures only { (documents : List Placed) (p : Parts) (d : Placed) → IsPartOf view.now schema.now documents p → slice_get documents number ≡ Some d
-        → MatchResult result (λ full. firsts wanted None kept.new.items ≡ firsts wanted None (kept.old.items ++ d ∷ [])) (HasCause (AsksDocuments p documents (number ∷ [])) view.now.pieces) }
+        → MatchResult result (λ full. firsts wanted None kept.new.items ≡ firsts wanted None (kept.old.items ++ d ∷ [])) (LacksPart (AsksDocuments p documents (number ∷ [])) view.now.pieces) }
     ensures bar { IfOk result (λ full. OnTrue full (HasBar (orders.comes_before None) wanted kept.new.items)) }
     ensures there { (documents : List Placed) (p : Parts) (d : Placed) → IsPartOf view.now schema.now documents p → HaveAll (file_bytes p) view.now.pieces
         → slice_get documents number ≡ Some d → IsThere result }
@@ -190,7 +190,7 @@ fn hits_by_address(
 ) -> Result<PlacedList, SplitError>
     requires { AllBelow view.now.footer.layout.docs numbers.now }
     ensures only { (documents : List Placed) (p : Parts) → IsPartOf view.now schema.now documents p
-        → MatchResult result (λ hits. hits ≡ firsts wanted None (picked numbers.now documents)) (HasCause (AsksDocuments p documents numbers.now) view.now.pieces) }
+        → MatchResult result (λ hits. hits ≡ firsts wanted None (picked numbers.now documents)) (LacksPart (AsksDocuments p documents numbers.now) view.now.pieces) }
     ensures there { (documents : List Placed) (p : Parts) → IsPartOf view.now schema.now documents p → HaveAll (file_bytes p) view.now.pieces → IsThere result }
 {
     let mut kept = Vec::new(alloc);
@@ -218,7 +218,7 @@ fn sorted_hits(
     requires below { AllBelow view.now.footer.layout.docs numbers.now }
     requires some { 1 ≤ wanted }
     ensures only { (documents : List Placed) (p : Parts) → IsPartOf view.now schema.now documents p → IsSortOf schema.now documents order sort.now
-        → MatchResult result (λ hits. hits ≡ firsts wanted order (picked numbers.now documents)) (HasCause (AsksDocuments p documents (shown order wanted documents numbers.now)) view.now.pieces) }
+        → MatchResult result (λ hits. hits ≡ firsts wanted order (picked numbers.now documents)) (LacksPart (AsksDocuments p documents (shown order wanted documents numbers.now)) view.now.pieces) }
     ensures there { (documents : List Placed) (p : Parts) → IsPartOf view.now schema.now documents p → HaveAll (file_bytes p) view.now.pieces → IsThere result }
 {
     match sort {
@@ -244,7 +244,7 @@ pub fn first_hits(
     requires { AllBelow view.now.footer.layout.docs numbers.now }
     // Of a split of documents.
     ensures only { (documents : List Placed) (p : Parts) → IsPartOf view.now schema.now documents p → IsSortable schema.now order
-        → MatchResult result (λ hits. hits ≡ firsts wanted order (picked numbers.now documents)) (HasCause (AsksHits view.now p documents order wanted numbers.now) view.now.pieces) }
+        → MatchResult result (λ hits. hits ≡ firsts wanted order (picked numbers.now documents)) (LacksPart (AsksHits view.now p documents order wanted numbers.now) view.now.pieces) }
     // Where the pieces have every part.
     ensures there { (documents : List Placed) (p : Parts) → IsPartOf view.now schema.now documents p → HaveAll (file_bytes p) view.now.pieces → IsThere result }
     // Where none are wanted.

@@ -13,7 +13,7 @@ ghost use Rattle.split_bundle.specs.Lending.{IsPartOf};
 ghost use Rattle.split_bundle.specs.Splits.{AreDocumentsOf};
 ghost use Rattle.split_bundle.specs.Wholes.{HaveAll, IsThere};
 ghost use Rattle.doc_tallies.specs.declared.hit_order.HitOrder.{HitOrder};
-ghost use Rattle.doc_tallies.specs.Causes.{AsksField, HasCause};
+ghost use Rattle.doc_tallies.specs.Causes.{AsksField, LacksPart};
 ghost use Rattle.doc_tallies.specs.Least as least;
 ghost use Rattle.doc_tallies.specs.Least.{AreLeast, IsBar};
 ghost use Rattle.doc_tallies.specs.Near.{shown};
@@ -47,7 +47,7 @@ pub(crate) fn open_sort<'a>(
     order: Option<HitOrder>,
 ) -> Result<Option<SortColumn<'a>>, SplitError>
     ensures only { (documents : List Placed) (p : Parts) → IsPartOf view.now schema.now documents p → IsSortable schema.now order
-        → MatchResult result (IsSortOf schema.now documents order) (HasCause (AsksField view.now p (sort_field order)) view.now.pieces) }
+        → MatchResult result (IsSortOf schema.now documents order) (LacksPart (AsksField view.now p (sort_field order)) view.now.pieces) }
     ensures there { (documents : List Placed) (p : Parts) → IsPartOf view.now schema.now documents p → HaveAll (file_bytes p) view.now.pieces → IsOk result }
 {
     match order {
@@ -249,7 +249,7 @@ pub fn near_of(
     requires { AllBelow view.now.footer.layout.docs numbers.now }
     // Of a split of documents.
     ensures only { (documents : List Placed) (p : Parts) → IsPartOf view.now schema.now documents p → IsSortable schema.now order
-        → MatchResult result (λ near. near.items ≡ shown order wanted documents numbers.now) (HasCause (AsksField view.now p (sort_field order)) view.now.pieces) }
+        → MatchResult result (λ near. near.items ≡ shown order wanted documents numbers.now) (LacksPart (AsksField view.now p (sort_field order)) view.now.pieces) }
     // Where the pieces have every part.
     ensures there { (documents : List Placed) (p : Parts) → IsPartOf view.now schema.now documents p → HaveAll (file_bytes p) view.now.pieces → IsThere result }
     // Of any bytes.

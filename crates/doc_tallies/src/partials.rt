@@ -12,7 +12,7 @@ ghost use Rattle.split_bundle.specs.Lending.{IsPartOf};
 ghost use Rattle.split_bundle.specs.Splits.{AreDocumentsOf};
 ghost use Rattle.split_bundle.specs.Wholes.{HaveAll, IsThere};
 ghost use Rattle.doc_tallies.specs.AggColumns.{AreColumnsFor, AreOverFast, AsksColumns, AsksFields, fields_of, fields_asked};
-ghost use Rattle.doc_tallies.specs.Causes.{HasCause};
+ghost use Rattle.doc_tallies.specs.Causes.{LacksPart};
 ghost use Rattle.doc_tallies.specs.Cells.{IsFast};
 ghost use Rattle.doc_tallies.specs.Picked.{AllBelow, docs_of, picked};
 
@@ -70,7 +70,7 @@ fn part_of(
     requires steps { All (λ named. HasStep named.agg) asked.now.nested }
     requires below { AllBelow view.now.footer.layout.docs numbers.now }
     ensures only { (documents : List Placed) (p : Parts) → IsPartOf view.now schema.now documents p → All (IsFast schema.now) (fields_of asked.now)
-        → MatchResult result (λ part. PartStands asked.now part (docs_of (picked numbers.now documents))) (HasCause (AsksColumns view.now p (fields_of asked.now)) view.now.pieces) }
+        → MatchResult result (λ part. PartStands asked.now part (docs_of (picked numbers.now documents))) (LacksPart (AsksColumns view.now p (fields_of asked.now)) view.now.pieces) }
     ensures there { (documents : List Placed) (p : Parts) → IsPartOf view.now schema.now documents p → HaveAll (file_bytes p) view.now.pieces → IsThere result }
     ensures known { IfOk result (IsPartFor asked.now (length numbers.now)) }
 {
@@ -99,7 +99,7 @@ fn parts_of(
     requires below { AllBelow view.now.footer.layout.docs numbers.now }
     ensures only { (documents : List Placed) (p : Parts) → IsPartOf view.now schema.now documents p → AreOverFast schema.now request.now
         → MatchResult result (λ parts. AllZip (λ asked part. PartStands asked part (docs_of (picked numbers.now documents))) request.now parts.items)
-        (HasCause (AsksFields view.now p request.now) view.now.pieces) }
+        (LacksPart (AsksFields view.now p request.now) view.now.pieces) }
     ensures there { (documents : List Placed) (p : Parts) → IsPartOf view.now schema.now documents p → HaveAll (file_bytes p) view.now.pieces → IsThere result }
     ensures known { IfOk result (λ parts. ArePartsFor request.now (length numbers.now) parts.items) }
 {
@@ -126,7 +126,7 @@ pub fn partial_of(
     requires below { AllBelow view.now.footer.layout.docs numbers.now }
     // Of a split of documents.
     ensures only { (documents : List Placed) (p : Parts) → IsPartOf view.now schema.now documents p → AreOverFast schema.now request.now
-        → MatchResult result (λ partial. NestedStands request.now partial (docs_of (picked numbers.now documents))) (HasCause (AsksFields view.now p request.now) view.now.pieces) }
+        → MatchResult result (λ partial. NestedStands request.now partial (docs_of (picked numbers.now documents))) (LacksPart (AsksFields view.now p request.now) view.now.pieces) }
     // Where the pieces have every part.
     ensures there { (documents : List Placed) (p : Parts) → IsPartOf view.now schema.now documents p → HaveAll (file_bytes p) view.now.pieces → IsThere result }
     // Over any bytes.

@@ -10,7 +10,7 @@ ghost use Rattle.split_bundle.specs.Files.{Parts, file_bytes};
 ghost use Rattle.split_bundle.specs.Lending.{IsPartOf};
 ghost use Rattle.split_bundle.specs.Splits.{AreDocumentsOf};
 ghost use Rattle.split_bundle.specs.Wholes.{HaveAll, IsThere};
-ghost use Rattle.doc_tallies.specs.Causes.{AsksField, HasCause};
+ghost use Rattle.doc_tallies.specs.Causes.{AsksField, LacksPart};
 ghost use Rattle.doc_tallies.specs.Picked.{AllBelow};
 ghost use Rattle.doc_tallies.specs.Times.{numbers_within};
 ghost use Rattle.doc_tallies.specs.Cells.{IsTimeColumn};
@@ -89,7 +89,7 @@ fn timestamp_column<'a>(
     view: &PartView<'a>,
 ) -> Result<Option<FieldColumn<'a>>, SplitError>
     ensures only { (documents : List Placed) (p : Parts) → IsPartOf view.now schema.now documents p
-        → MatchResult result (IsTimeColumn schema.now documents) (HasCause (AsksField view.now p schema.now.timestamp) view.now.pieces) }
+        → MatchResult result (IsTimeColumn schema.now documents) (LacksPart (AsksField view.now p schema.now.timestamp) view.now.pieces) }
     ensures there { (documents : List Placed) (p : Parts) → IsPartOf view.now schema.now documents p → HaveAll (file_bytes p) view.now.pieces → IsOk result }
 {
     match schema.timestamp {
@@ -113,7 +113,7 @@ pub fn within_times(
     requires { AllBelow view.now.footer.layout.docs numbers.now }
     // Of a split of documents.
     ensures only { (documents : List Placed) (p : Parts) → IsPartOf view.now schema.now documents p
-        → MatchResult result (λ within. within.items ≡ numbers_within schema.now times documents numbers.now) (HasCause (AsksField view.now p schema.now.timestamp) view.now.pieces) }
+        → MatchResult result (λ within. within.items ≡ numbers_within schema.now times documents numbers.now) (LacksPart (AsksField view.now p schema.now.timestamp) view.now.pieces) }
     // Where the pieces have every part.
     ensures there { (documents : List Placed) (p : Parts) → IsPartOf view.now schema.now documents p → HaveAll (file_bytes p) view.now.pieces → IsThere result }
 {

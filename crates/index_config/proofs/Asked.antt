@@ -5,7 +5,7 @@ use Rattle.toml.specs.Data.{Data}
 use Rattle.index_config.specs.declared.config_error.ConfigError.{ConfigError}
 use Rattle.index_config.specs.declared.rule.FieldType.{FieldType}
 use Rattle.index_config.specs.declared.rule.PolicyType.{PolicyType}
-use Rattle.index_config.specs.declared.rule.Place.TheVariants as places
+use Rattle.index_config.specs.declared.rule.RulePlace.TheVariants as places
 use Rattle.index_config.specs.declared.rule.Rule.TheVariants as rules
 use Rattle.index_config.specs.Tables.{asked, optional, required, list_of, whole, unknown_faults, members_in, field_note_faults, field_value_faults, mappings_ask, is_object, top_faults, indexing_key_faults, upkeep_faults, search_faults, retention_faults, policy_faults, policy_type, merge_factor}
 use Rattle.index_config.proofs.Nesting.{chain}

@@ -14,7 +14,7 @@ use Rattle.doc_value.specs.declared.schema.Kind.{Kind}
 use Rattle.index_config.specs.declared.raw.RawField.{RawField}
 use Rattle.index_config.specs.declared.rule.FieldType.{FieldType}
 use Rattle.index_config.specs.declared.rule.Rule.TheVariants as rules
-use Rattle.index_config.specs.declared.rule.Place.TheVariants as places
+use Rattle.index_config.specs.declared.rule.RulePlace.TheVariants as places
 use Rattle.index_config.specs.declared.config.Mode.{Mode}
 use Rattle.index_config.specs.declared.config.Mode.TheVariants as modes
 use Rattle.index_config.specs.declared.config_error.ConfigError.{ConfigError}

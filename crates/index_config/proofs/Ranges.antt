@@ -8,7 +8,7 @@ use Rattle.index_config.specs.declared.config_error.ConfigError.{ConfigError}
 use Rattle.index_config.specs.declared.rule.PolicyType.{PolicyType}
 use Rattle.index_config.specs.declared.rule.PolicyType.TheVariants as policies
 use Rattle.index_config.specs.declared.rule.Rule.TheVariants as rules
-use Rattle.index_config.specs.declared.rule.Place.TheVariants as places
+use Rattle.index_config.specs.declared.rule.RulePlace.TheVariants as places
 use Rattle.index_config.specs.Accepted.{IsBetween, HasPolicyRanges, HasRanges}
 use Rattle.index_config.specs.Rules.{under, range_faults, whole_faults, seconds_faults, duration_faults, duration_of, max_seconds, wrong_unless}
 use Rattle.index_config.specs.Tables.{asked, asked_value, optional, required, whole, text_at, retention_faults, retention_path, number_in, number_at, merge_factor, policy_type, policy_faults, policy_path, indexing_key_faults, indexing_faults, indexing_path, search_faults, search_path, upkeep_faults, upkeep_path, unknown_faults, members_in, table_by, optional_table, where_table, mapping_faults, mapping_path, top_faults, table_faults, text_in}

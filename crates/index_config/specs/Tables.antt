@@ -9,8 +9,8 @@ use Rattle.index_config.specs.declared.rule.FieldType.{FieldType}
 use Rattle.index_config.specs.declared.rule.FieldType.TheVariants as types
 use Rattle.index_config.specs.declared.rule.PolicyType.{PolicyType}
 use Rattle.index_config.specs.declared.rule.PolicyType.TheVariants as policies
-use Rattle.index_config.specs.declared.rule.Place.{Place}
-use Rattle.index_config.specs.declared.rule.Place.TheVariants as places
+use Rattle.index_config.specs.declared.rule.RulePlace.{RulePlace}
+use Rattle.index_config.specs.declared.rule.RulePlace.TheVariants as places
 use Rattle.index_config.specs.declared.config_error.ConfigError.{ConfigError}
 use Rattle.index_config.specs.declared.config_error.ConfigError.TheVariants.{UnknownKey, MissingKey}
 use Rattle.index_config.specs.Rules.{under, member_path, value_faults, wrong_unless}
@@ -80,7 +80,7 @@ is_policy_key (Some policies.LimitMerge) k = bytes_eq k (codes "type") || is_mer
 is_policy_key (Some policies.NoMerge) k = bytes_eq k (codes "type")
 is_policy_key None k = bytes_eq k (codes "type") || is_merging_key k || bytes_eq k (codes "min_level_num_docs") || bytes_eq k (codes "max_merge_ops")
 
-abbrev pub is_known : Place → List ℕ → Bool
+abbrev pub is_known : RulePlace → List ℕ → Bool
 is_known places.Top k = is_top_key k
 is_known places.Mapping k = is_mapping_key k
 is_known places.Indexing k = is_indexing_key k
@@ -95,7 +95,7 @@ unknown_unless true path = []
 unknown_unless false path = UnknownKey path ∷ []
 
 -- the keys that a table doesn't know, in byte order
-abbrev pub unknown_faults : Place → List ℕ → Members → List ConfigError
+abbrev pub unknown_faults : RulePlace → List ℕ → Members → List ConfigError
 unknown_faults place prefix no_members = []
 unknown_faults place prefix (member k d ms) = unknown_unless (is_known place k) (under prefix k) ++ unknown_faults place prefix ms
 

@@ -2,21 +2,21 @@ ghost use Rattle.std.specs.Prelude.{◌≡◌};
 ghost use Rattle.index_config.specs.Tables as spec;
 
 use crate::names::is_same;
-use crate::rule::{FieldType, Place, PolicyType};
+use crate::rule::{FieldType, RulePlace, PolicyType};
 
 /// Whether a table knows a key.
-pub fn is_known(place: Place, key: &[u8]) -> bool
+pub fn is_known(place: RulePlace, key: &[u8]) -> bool
     ensures { result ≡ spec.is_known place key.now }
 {
     match place {
-        Place::Top => is_top_key(key),
-        Place::Mapping => is_mapping_key(key),
-        Place::Indexing => is_indexing_key(key),
-        Place::Search => is_search_key(key),
-        Place::Retention => is_retention_key(key),
-        Place::Upkeep => is_upkeep_key(key),
-        Place::OfField(field_type) => is_field_key(field_type, key),
-        Place::OfPolicy(policy_type) => is_policy_key(policy_type, key),
+        RulePlace::Top => is_top_key(key),
+        RulePlace::Mapping => is_mapping_key(key),
+        RulePlace::Indexing => is_indexing_key(key),
+        RulePlace::Search => is_search_key(key),
+        RulePlace::Retention => is_retention_key(key),
+        RulePlace::Upkeep => is_upkeep_key(key),
+        RulePlace::OfField(field_type) => is_field_key(field_type, key),
+        RulePlace::OfPolicy(policy_type) => is_policy_key(policy_type, key),
     }
 }
 

@@ -46,7 +46,7 @@ pub enum PolicyType {
 
 /// The tables of a configuration.
 #[derive(Clone, Copy)]
-pub enum Place {
+pub enum RulePlace {
     Top,
     Mapping,
     Indexing,

@@ -11,7 +11,7 @@ use crate::config_error::ConfigError;
 use crate::keys::is_known;
 use crate::names::{member_path, policy_named, type_named, under};
 use crate::raw::Faults;
-use crate::rule::{Ask, FieldType, Place, PolicyType, Rule, Section};
+use crate::rule::{Ask, FieldType, RulePlace, PolicyType, Rule, Section};
 use doc_value::Text;
 use std::alloc::{AllocError, Global};
 use std::mem;
@@ -78,7 +78,7 @@ fn check_keys(here: &Here, faults: &mut Faults, keys: &[(Ask, &str)]) -> Result<
 fn check_table(
     here: &Here,
     faults: &mut Faults,
-    place: Place,
+    place: RulePlace,
     keys: &[(Ask, &str)],
 ) -> Result<(), AllocError>
     ensures { OnOk result (faults.new ≡ faults.old ++ (spec.unknown_faults place here.now.path (spec.members_in (view here.now.table.now))
@@ -89,7 +89,7 @@ fn check_table(
 }
 
 /// The keys that a table doesn't know, in byte order.
-fn check_known(here: &Here, faults: &mut Faults, place: Place) -> Result<(), AllocError>
+fn check_known(here: &Here, faults: &mut Faults, place: RulePlace) -> Result<(), AllocError>
     ensures { OnOk result (faults.new ≡ faults.old ++ spec.unknown_faults place here.now.path (spec.members_in (view here.now.table.now))) }
 {
     let Some(map) = here.table.as_table() else {
@@ -104,7 +104,7 @@ fn check_known(here: &Here, faults: &mut Faults, place: Place) -> Result<(), All
 fn check_known_key(
     here: &Here,
     faults: &mut Faults,
-    place: Place,
+    place: RulePlace,
     key: &str,
 ) -> Result<(), AllocError>
     ensures { OnOk result (faults.new ≡ faults.old ++ spec.unknown_unless (spec.is_known place key.now) (rules.under here.now.path key.now)) }
@@ -165,7 +165,7 @@ fn check_field(
         (required!(Rule::FieldName), "name"),
         (required!(Rule::TypeName), "type"),
     ];
-    check_table(here, faults, Place::OfField(field_type), &keys)?;
+    check_table(here, faults, RulePlace::OfField(field_type), &keys)?;
     check_depth(here, faults, deepest, field_type)?;
     check_field_values(here, faults, field_type)?;
     check_field_notes(here, faults)
@@ -292,7 +292,7 @@ fn check_mapping(here: &Here, faults: &mut Faults) -> Result<(), AllocError>
         (optional!(Rule::Truth), "store_source"),
         (optional!(Rule::Truth), "index_field_presence"),
     ];
-    check_table(here, faults, Place::Mapping, &keys)?;
+    check_table(here, faults, RulePlace::Mapping, &keys)?;
     check_fields(here, faults, MAX_LEVELS)
 }
 
@@ -360,7 +360,7 @@ fn check_policy(here: &Here, faults: &mut Faults) -> Result<(), AllocError>
         (whole!(1, 100), "max_merge_ops"),
         (optional!(Rule::Duration { least: 0 }), "maturation_period"),
     ];
-    check_table(here, faults, Place::OfPolicy(kind), &keys)
+    check_table(here, faults, RulePlace::OfPolicy(kind), &keys)
 }
 
 /// The keys of the indexing settings, without those of the policy in them.
@@ -372,14 +372,14 @@ fn check_indexing(here: &Here, faults: &mut Faults) -> Result<(), AllocError>
         (whole!(1, 16_777_216), "split_num_docs_target"),
         (optional!(Rule::AnyTable), "resources"),
     ];
-    check_table(here, faults, Place::Indexing, &keys)
+    check_table(here, faults, RulePlace::Indexing, &keys)
 }
 
 fn check_search(here: &Here, faults: &mut Faults) -> Result<(), AllocError>
     ensures { OnOk result (faults.new ≡ faults.old ++ spec.search_faults here.now.path (view here.now.table.now)) }
 {
     let keys = [(list_of!(Rule::AnyText), "default_search_fields")];
-    check_table(here, faults, Place::Search, &keys)
+    check_table(here, faults, RulePlace::Search, &keys)
 }
 
 fn check_retention(here: &Here, faults: &mut Faults) -> Result<(), AllocError>
@@ -389,7 +389,7 @@ fn check_retention(here: &Here, faults: &mut Faults) -> Result<(), AllocError>
         (required!(Rule::Duration { least: 1 }), "period"),
         (optional!(Rule::AnyText), "schedule"),
     ];
-    check_table(here, faults, Place::Retention, &keys)
+    check_table(here, faults, RulePlace::Retention, &keys)
 }
 
 fn check_upkeep(here: &Here, faults: &mut Faults) -> Result<(), AllocError>
@@ -399,7 +399,7 @@ fn check_upkeep(here: &Here, faults: &mut Faults) -> Result<(), AllocError>
         (whole!(1, 2_147_483_647), "staged_grace_secs"),
         (whole!(1, 2_147_483_647), "deletion_grace_secs"),
     ];
-    check_table(here, faults, Place::Upkeep, &keys)
+    check_table(here, faults, RulePlace::Upkeep, &keys)
 }
 
 fn check_top(here: &Here, faults: &mut Faults) -> Result<(), AllocError>
@@ -411,7 +411,7 @@ fn check_top(here: &Here, faults: &mut Faults) -> Result<(), AllocError>
         (optional!(Rule::AnyText), "index_uri"),
         (required!(Rule::AnyTable), "doc_mapping"),
     ];
-    check_table(here, faults, Place::Top, &keys)
+    check_table(here, faults, RulePlace::Top, &keys)
 }
 
 fn check_top_at(alloc: Global, faults: &mut Faults, table: &Value) -> Result<(), AllocError>

@@ -8,7 +8,7 @@ use Rattle.index_world.specs.Alike.{AreAlike}
 use Rattle.index_world.specs.Configuration.{configuration}
 use Rattle.index_world.specs.Core.{Core, journal_of, with_unread, IsUploadedIn}
 use Rattle.index_world.specs.Index.{IsUnused, IsStored, IsGivenUp, HasStaged}
-use Rattle.index_world.specs.Standing.{StandsFor}
+use Rattle.index_world.specs.Standing.{IsCoreOf}
 use Rattle.index_world.specs.World.{Keeping, WorldStands}
 use Rattle.index_world.proofs.InCore.{unused-in, unused-of, stored-in, stored-of}
 use Rattle.index_world.proofs.Journals.{once, one-journal}
@@ -43,11 +43,11 @@ alike_of w core other log read s o =
     same : o.kept ≡ s.kept
     same = let both : ◌≡◌ {A = Option State} (Some o.kept) (Some s.kept) = sym o.told ∙ s.told in cc both
 
-    here : StandsFor s.kept core
+    here : IsCoreOf s.kept core
     here = s.world.stands_for
 
-    there : StandsFor s.kept other
-    there = subst (λ (k : State). StandsFor k other) same o.world.stands_for
+    there : IsCoreOf s.kept other
+    there = subst (λ (k : State). IsCoreOf k other) same o.world.stands_for
 
     journals : journal_of core ≡ journal_of other
     journals = one-journal once s.kept 0 (journal_of core) (journal_of other) here.journal there.journal

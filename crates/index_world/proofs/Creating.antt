@@ -12,7 +12,7 @@ use Rattle.meta_journal.specs.declared.entry.Act.TheVariants.{Fence, MarkStaged,
 use Rattle.meta_journal.specs.declared.entry.Entry.{Entry}
 use Rattle.meta_journal.specs.declared.journal_error.JournalError.{JournalError}
 use Rattle.meta_journal.specs.declared.journal_error.JournalError.TheVariants as journal
-use Rattle.meta_journal.specs.declared.place.Place.TheVariants.{Sure, Given}
+use Rattle.meta_journal.specs.declared.place.JournalPlace.TheVariants.{Sure, Given}
 use Rattle.meta_store.specs.Answers.{Answer, HasNumbers, answer_to}
 use Rattle.meta_store.proofs.Numbers.{staged_marked, staged_row}
 use Rattle.meta_store.specs.History.{history}

@@ -27,7 +27,7 @@ use Rattle.index_world.specs.Held.{KeepsFor, All, But}
 use Rattle.index_world.specs.Index.{OneEntry, IsIndexOf, MayEnter, IsGivenUp, is_meta}
 use Rattle.index_world.specs.Onward.{Onward}
 use Rattle.index_world.specs.Releases.{MayFree}
-use Rattle.index_world.specs.Standing.{StandsFor}
+use Rattle.index_world.specs.Standing.{IsCoreOf}
 use Rattle.index_world.specs.World.{IsWorld, GoesFor}
 use Rattle.index_world.proofs.Timely.{free_later}
 use Rattle.index_world.proofs.Deleting.{index-deleted}
@@ -67,7 +67,7 @@ file_at-left (f ∷ files) key other apart = by (bytes_eq f.key key) refl (file_
     by true e more = rw e (rw (away e) more)
     by false e more = rw e (ap (λ (o : Option (List ℕ)). if bytes_eq f.key other then Some f.bytes else o) more)
 
-files_less : (kept : State) (core : Core) (key : List ℕ) → StandsFor kept core → (other : List ℕ) → is_meta other ≡ false → file_at (without_file key core).files other ≡ get (without_object kept key).objects other
+files_less : (kept : State) (core : Core) (key : List ℕ) → IsCoreOf kept core → (other : List ℕ) → is_meta other ≡ false → file_at (without_file key core).files other ≡ get (without_object kept key).objects other
 files_less kept core key s other out = by (bytes_eq key other) refl
   where
     by : (b : Bool) → bytes_eq key other ≡ b → file_at (without_file key core).files other ≡ get (without_object kept key).objects other
@@ -108,7 +108,7 @@ world-deleted kept core log n w f =
       live = live-on core (without_file (split_key n) core) (record { history = refl; marks = refl; moment = omega arith });
     }
   where
-    s : StandsFor kept core
+    s : IsCoreOf kept core
     s = w.stands_for
 
     g : IsGivenUp (journal_of core) n

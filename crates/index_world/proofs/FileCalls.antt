@@ -14,7 +14,7 @@ use Rattle.index_world.specs.Calls.{Effect, done_at_once, done_late, done_never,
 use Rattle.index_world.specs.Calls as calls
 use Rattle.index_world.specs.Core.{Core, late_file, file_at, last_count, with_unread, journal_of, clock_of, upkeep_of, no_upkeep}
 use Rattle.index_world.specs.Index.{OneEntry, IsUnused, IsStored, is_meta}
-use Rattle.index_world.specs.Standing.{StandsFor}
+use Rattle.index_world.specs.Standing.{IsCoreOf}
 use Rattle.index_world.specs.World.{IsWorld}
 use Rattle.index_world.specs.Held.{All, But}
 use Rattle.index_world.specs.Onward.{Onward, Reread}
@@ -55,7 +55,7 @@ filed-on old mid new core between after log n o f =
 filed-of : (old new : State) (core after : Core) (log : Log) (n : ℕ) → Onward old new core after log → Filed old new core after log n
 filed-of old new core after log n o = record { world = o.world; others = held-fewer (But n) All old new (journal_of core) (journal_of after) o.held; live = o.live }
 
-absent_file : (kept : State) (core : Core) (n : ℕ) → StandsFor kept core → IsUnused kept (journal_of core) n → is_some (file_at core.files (split_key n)) ≡ false
+absent_file : (kept : State) (core : Core) (n : ℕ) → IsCoreOf kept core → IsUnused kept (journal_of core) n → is_some (file_at core.files (split_key n)) ≡ false
 absent_file kept core n s u = ap is_some (s.files (split_key n) (split_outside n) ∙ u.absent)
 
 pub upload_is_made : OneEntry → (old new : State) (core : Core) (log : Log) (n : ℕ) (bytes : List ℕ) (now : ℕ) → IsWorld old core log → Counted core now → IsUnused old (journal_of core) n →
@@ -183,7 +183,7 @@ upload_short once old new core log n bytes now w c t =
 -- ---- a get of a file
 
 -- whether a file stands in the core as it does in the store
-there_alike : (kept : State) (core : Core) (key : List ℕ) (there : Bool) → is_meta key ≡ false → StandsFor kept core → is_some (get kept.objects key) ≡ there → is_some (file_at core.files key) ≡ there
+there_alike : (kept : State) (core : Core) (key : List ℕ) (there : Bool) → is_meta key ≡ false → IsCoreOf kept core → is_some (get kept.objects key) ≡ there → is_some (file_at core.files key) ≡ there
 there_alike kept core key there outside s e = ap is_some (s.files key outside) ∙ e
 
 pub sought_law : OneEntry → (old new : State) (core : Core) (log : Log) (now : ℕ) (key : List ℕ) (there : Bool) → is_meta key ≡ false → IsWorld old core log → Counted core now → HasLanded old new → is_some (get new.objects key) ≡ there →

@@ -21,7 +21,7 @@ use Rattle.index_world.specs.Held as held
 use Rattle.index_world.specs.Index.{IsNotLate, IsUnused, IsStored, IsFound, IsLeft}
 use Rattle.index_world.specs.Seen.{contents}
 use Rattle.index_world.specs.SplitFile.{file_of}
-use Rattle.index_world.specs.Standing.{late_object, StandsFor}
+use Rattle.index_world.specs.Standing.{late_object, IsCoreOf}
 use Rattle.index_world.specs.World.{IsWorld, GoesFor, GoesOn}
 use Rattle.index_world.specs.Onward.{Onward, Reread}
 use Rattle.index_world.specs.DirectLaws.{stays_as_is}
@@ -38,48 +38,48 @@ lates_apart : (key : List ℕ) (lates : List Late) → AllByRecursion (λ l. l.0
 lates_apart key [] h = tt
 lates_apart key (late ∷ lates) h = (h.0, lates_apart key lates h.1)
 
-not_late-in : (kept : State) (core : Core) (key : List ℕ) → StandsFor kept core → IsNotLate kept key → IsNotLateIn core key
+not_late-in : (kept : State) (core : Core) (key : List ℕ) → IsCoreOf kept core → IsNotLate kept key → IsNotLateIn core key
 not_late-in kept core key s h = lates_apart key core.late (subst (λ ls. AllByRecursion (λ l. l.0 ≡ key → ⊥) ls) (sym s.late) h)
 
-not_late-of : (kept : State) (core : Core) (key : List ℕ) → StandsFor kept core → IsNotLateIn core key → IsNotLate kept key
+not_late-of : (kept : State) (core : Core) (key : List ℕ) → IsCoreOf kept core → IsNotLateIn core key → IsNotLate kept key
 not_late-of kept core key s h = subst (λ ls. AllByRecursion (λ l. l.0 ≡ key → ⊥) ls) s.late (objects_apart key core.late h)
 
-pub unused-in : (kept : State) (core : Core) (n : ℕ) → StandsFor kept core → IsUnused kept (journal_of core) n → IsUnusedIn core n
+pub unused-in : (kept : State) (core : Core) (n : ℕ) → IsCoreOf kept core → IsUnused kept (journal_of core) n → IsUnusedIn core n
 unused-in kept core n s u =
     record { staged = u.staged; unshown = u.unshown; absent = s.files (split_key n) (split_outside n) ∙ u.absent; not_late = not_late-in kept core (split_key n) s u.not_late }
 
-pub unused-of : (kept : State) (core : Core) (n : ℕ) → StandsFor kept core → IsUnusedIn core n → IsUnused kept (journal_of core) n
+pub unused-of : (kept : State) (core : Core) (n : ℕ) → IsCoreOf kept core → IsUnusedIn core n → IsUnused kept (journal_of core) n
 unused-of kept core n s u =
     record { staged = u.staged; unshown = u.unshown; absent = sym (s.files (split_key n) (split_outside n)) ∙ u.absent; not_late = not_late-of kept core (split_key n) s u.not_late }
 
-pub stored-in : (kept : State) (core : Core) (n : ℕ) (bytes : List ℕ) → StandsFor kept core → IsStored kept (journal_of core) n bytes → IsStoredIn core n bytes
+pub stored-in : (kept : State) (core : Core) (n : ℕ) (bytes : List ℕ) → IsCoreOf kept core → IsStored kept (journal_of core) n bytes → IsStoredIn core n bytes
 stored-in kept core n bytes s u = record { staged = u.staged; file = s.files (split_key n) (split_outside n) ∙ u.file; not_late = not_late-in kept core (split_key n) s u.not_late }
 
 as_stands : {a b : Option (List ℕ)} {c : List ℕ} → a ≡ b → (b ≡ None) ⊎ (b ≡ Some c) → (a ≡ None) ⊎ (a ≡ Some c)
 as_stands e (inl none) = inl (e ∙ none)
 as_stands e (inr file) = inr (e ∙ file)
 
-pub stored-of : (kept : State) (core : Core) (n : ℕ) (bytes : List ℕ) → StandsFor kept core → IsStoredIn core n bytes → IsStored kept (journal_of core) n bytes
+pub stored-of : (kept : State) (core : Core) (n : ℕ) (bytes : List ℕ) → IsCoreOf kept core → IsStoredIn core n bytes → IsStored kept (journal_of core) n bytes
 stored-of kept core n bytes s u = record { staged = u.staged; file = sym (s.files (split_key n) (split_outside n)) ∙ u.file; not_late = not_late-of kept core (split_key n) s u.not_late }
 
 -- a file that was shown, and may be gone
-pub shown-in : (kept : State) (core : Core) (n : ℕ) (bytes : List ℕ) → StandsFor kept core → IsLeft kept (journal_of core) n bytes → IsShownIn core n bytes
+pub shown-in : (kept : State) (core : Core) (n : ℕ) (bytes : List ℕ) → IsCoreOf kept core → IsLeft kept (journal_of core) n bytes → IsShownIn core n bytes
 shown-in kept core n bytes s f = record { shown = f.shown; left = as_stands (s.files (split_key n) (split_outside n)) f.left; not_late = not_late-in kept core (split_key n) s f.not_late }
 
-pub shown-of : (kept : State) (core : Core) (n : ℕ) (bytes : List ℕ) → StandsFor kept core → IsShownIn core n bytes → IsLeft kept (journal_of core) n bytes
+pub shown-of : (kept : State) (core : Core) (n : ℕ) (bytes : List ℕ) → IsCoreOf kept core → IsShownIn core n bytes → IsLeft kept (journal_of core) n bytes
 shown-of kept core n bytes s f = record { shown = f.shown; left = as_stands (sym (s.files (split_key n) (split_outside n))) f.left; not_late = not_late-of kept core (split_key n) s f.not_late }
 
 -- a file that stands, or whose row was marked or is gone
-pub uploaded-in : (kept : State) (core : Core) (n : ℕ) (bytes : List ℕ) → StandsFor kept core → IsFound kept (journal_of core) n bytes → IsUploadedIn core n bytes
+pub uploaded-in : (kept : State) (core : Core) (n : ℕ) (bytes : List ℕ) → IsCoreOf kept core → IsFound kept (journal_of core) n bytes → IsUploadedIn core n bytes
 uploaded-in kept core n bytes s (inl u) = inl (stored-in kept core n bytes s u)
 uploaded-in kept core n bytes s (inr g) = inr g
 
-pub uploaded-of : (kept : State) (core : Core) (n : ℕ) (bytes : List ℕ) → StandsFor kept core → IsUploadedIn core n bytes → IsFound kept (journal_of core) n bytes
+pub uploaded-of : (kept : State) (core : Core) (n : ℕ) (bytes : List ℕ) → IsCoreOf kept core → IsUploadedIn core n bytes → IsFound kept (journal_of core) n bytes
 uploaded-of kept core n bytes s (inl u) = inl (stored-of kept core n bytes s u)
 uploaded-of kept core n bytes s (inr g) = inr g
 
 -- what a store keeps of the numbers in hand its core keeps
-pub keeps_by : (Kept Stays : ℕ → Type 0) (old new : State) (core after : Core) → StandsFor old core → StandsFor new after → held.KeepsFor Kept Stays old new (journal_of core) (journal_of after) → KeepsFor Kept core after
+pub keeps_by : (Kept Stays : ℕ → Type 0) (old new : State) (core after : Core) → IsCoreOf old core → IsCoreOf new after → held.KeepsFor Kept Stays old new (journal_of core) (journal_of after) → KeepsFor Kept core after
 keeps_by Kept Stays old new core after s t h =
     record {
       configured = h.configured;
@@ -90,7 +90,7 @@ keeps_by Kept Stays old new core after s t h =
       given_up = h.given_up;
     }
 
-planned_by : (Kept : ℕ → Type 0) (old new : State) (core after : Core) → StandsFor old core → StandsFor new after → held.KeepsFor Kept All old new (journal_of core) (journal_of after) → core.moment ≤ after.moment →
+planned_by : (Kept : ℕ → Type 0) (old new : State) (core after : Core) → IsCoreOf old core → IsCoreOf new after → held.KeepsFor Kept All old new (journal_of core) (journal_of after) → core.moment ≤ after.moment →
     ((until n : ℕ) → IsLive core until n → IsLive after until n) → (until n : ℕ) (bytes : List ℕ) → IsPlannedIn core until n bytes → IsPlannedIn after until n bytes
 planned_by Kept old new core after s t h later live until n bytes p =
     record { live = live until n p.live; stands = λ early. stored-in new after n bytes t (h.stored n bytes tt (stored-of old core n bytes s (p.stands (omega (arith, early, later))))) }
@@ -99,16 +99,16 @@ pub fewer : (Kept Fewer : ℕ → Type 0) (core after : Core) → ((n : ℕ) →
 fewer Kept Fewer core after less k = record { configured = k.configured; unused = λ n kept u. k.unused n (less n kept) u; uploaded = k.uploaded; shown = k.shown; staged = k.staged; given_up = k.given_up }
 
 -- also of a new life
-pub keeps_reread : (old new : State) (core after : Core) (log : Log) → StandsFor old core → Reread old new core after log → KeepsBut None core after
+pub keeps_reread : (old new : State) (core after : Core) (log : Log) → IsCoreOf old core → Reread old new core after log → KeepsBut None core after
 keeps_reread old new core after log s o = fewer All (IsOther None) core after (λ n other. tt) (keeps_by All All old new core after s o.world.stands_for o.held)
 
-pub keeps_all : (old new : State) (core after : Core) (log : Log) → StandsFor old core → Onward old new core after log → KeepsBut None core after
+pub keeps_all : (old new : State) (core after : Core) (log : Log) → IsCoreOf old core → Onward old new core after log → KeepsBut None core after
 keeps_all old new core after log s o = fewer All (IsOther None) core after (λ n other. tt) (keeps_by All All old new core after s o.world.stands_for o.held)
 
-pub keeps_others : (old new : State) (core after : Core) (log : Log) (n : ℕ) → StandsFor old core → Filed old new core after log n → KeepsBut (Some n) core after
+pub keeps_others : (old new : State) (core after : Core) (log : Log) (n : ℕ) → IsCoreOf old core → Filed old new core after log n → KeepsBut (Some n) core after
 keeps_others old new core after log n s f = fewer (But n) (IsOther (Some n)) core after (λ m other. other) (keeps_by (But n) All old new core after s f.world.stands_for f.others)
 
-pub goes-on : (old new : State) (core after : Core) (log : Log) → StandsFor old core → Onward old new core after log → (more : List Entry) → after.history ≡ core.history ++ more →
+pub goes-on : (old new : State) (core after : Core) (log : Log) → IsCoreOf old core → Onward old new core after log → (more : List Entry) → after.history ≡ core.history ++ more →
     core.store_faults ≤ after.store_faults → core.moment ≤ after.moment → GoesOn None core after
 goes-on old new core after log s o more grown faults moment =
     record {
@@ -119,7 +119,7 @@ goes-on old new core after log s o more grown faults moment =
       planned = planned_by All old new core after s o.world.stands_for o.held moment o.live;
     }
 
-pub file-goes-on : (old new : State) (core after : Core) (log : Log) (n : ℕ) → StandsFor old core → Filed old new core after log n → after.history ≡ core.history ++ [] →
+pub file-goes-on : (old new : State) (core after : Core) (log : Log) (n : ℕ) → IsCoreOf old core → Filed old new core after log n → after.history ≡ core.history ++ [] →
     core.store_faults ≤ after.store_faults → core.moment ≤ after.moment → GoesOn (Some n) core after
 file-goes-on old new core after log n s f grown faults moment =
     record {

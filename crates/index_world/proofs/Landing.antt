@@ -12,7 +12,7 @@ use Rattle.source_log.specs.Log.{Log}
 use Rattle.index_world.specs.Calls.{late_lands, entry_lands, file_lands, with_file, without_late}
 use Rattle.index_world.specs.Core.{Core, File, Late, late_entry, late_dead, late_file, late_key, file_at, with_unread, journal_of}
 use Rattle.index_world.specs.Index.{IsIndexOf, MayLand, IsBelowEnd, IsLateEntry, is_meta}
-use Rattle.index_world.specs.Standing.{late_object, IsCalled, StandsFor}
+use Rattle.index_world.specs.Standing.{late_object, IsCalled, IsCoreOf}
 use Rattle.index_world.specs.World.{IsWorld}
 use Rattle.index_world.proofs.StoreKeys.{true_is_false, none_some, meta_begins, get-same, get-other}
 use Rattle.index_world.proofs.Journals.{journal-end, stand-of, Stand-at}
@@ -54,7 +54,7 @@ file_at-same (f ∷ files) key bytes absent = by (bytes_eq f.key key) refl (file
     by false e more = let rest = rw e at absent in rw e (more rest)
 
 -- a file under an absent key outside the journal
-pub files_more : (kept : State) (core : Core) (key bytes : List ℕ) → StandsFor kept core → is_meta key ≡ false → get kept.objects key ≡ None →
+pub files_more : (kept : State) (core : Core) (key bytes : List ℕ) → IsCoreOf kept core → is_meta key ≡ false → get kept.objects key ≡ None →
     (other : List ℕ) → is_meta other ≡ false → file_at (core.files ++ record { key = key; bytes = bytes } ∷ []) other ≡ get (insert kept.objects key bytes) other
 files_more kept core key bytes s outside absent other out = by (bytes_eq key other) refl
   where
@@ -68,18 +68,18 @@ files_more kept core key bytes s outside absent other out = by (bytes_eq key oth
         file_at-other core.files key bytes other apart ∙ s.files other out ∙ sym (get-other kept.objects key bytes other apart)
 
 -- an object of the journal changes no file
-pub files_same : (kept : State) (core : Core) (key bytes : List ℕ) → StandsFor kept core → is_meta key ≡ true →
+pub files_same : (kept : State) (core : Core) (key bytes : List ℕ) → IsCoreOf kept core → is_meta key ≡ true →
     (other : List ℕ) → is_meta other ≡ false → file_at core.files other ≡ get (insert kept.objects key bytes) other
 files_same kept core key bytes s meta other out =
     s.files other out ∙ sym (get-other kept.objects key bytes other (λ same. true_is_false (sym meta ∙ ap is_meta same ∙ out)))
 
 -- ---- one landing
 
-late_is : (kept : State) (core : Core) (place : ℕ) → StandsFor kept core → remove (map late_object core.late) place ≡ remove kept.late place
+late_is : (kept : State) (core : Core) (place : ℕ) → IsCoreOf kept core → remove (map late_object core.late) place ≡ remove kept.late place
 late_is kept core place s = ap (λ l. remove l place) s.late
 
 -- the late create is over
-stands-over : (kept : State) (core : Core) (place : ℕ) → StandsFor kept core → StandsFor (lates kept (remove kept.late place)) (without_late place core)
+stands-over : (kept : State) (core : Core) (place : ℕ) → IsCoreOf kept core → IsCoreOf (lates kept (remove kept.late place)) (without_late place core)
 stands-over kept core place s =
     record {
       journal = journal_late kept (remove kept.late place) (journal_of core) s.journal;
@@ -89,8 +89,8 @@ stands-over kept core place s =
     }
 
 -- a file lands
-stands-file : (kept : State) (core : Core) (place : ℕ) (key bytes : List ℕ) → StandsFor kept core → is_meta key ≡ false → get kept.objects key ≡ None →
-    StandsFor (record { objects = insert kept.objects key bytes; late = remove kept.late place }) (without_late place (with_file key bytes core))
+stands-file : (kept : State) (core : Core) (place : ℕ) (key bytes : List ℕ) → IsCoreOf kept core → is_meta key ≡ false → get kept.objects key ≡ None →
+    IsCoreOf (record { objects = insert kept.objects key bytes; late = remove kept.late place }) (without_late place (with_file key bytes core))
 stands-file kept core place key bytes s outside absent =
     record {
       journal = journal_late (with_object kept key bytes) (remove kept.late place) (journal_of core) (journal_other kept key bytes (journal_of core) outside s.journal);
@@ -100,8 +100,8 @@ stands-file kept core place key bytes s outside absent =
     }
 
 -- an entry lands
-stands-entry : (kept : State) (core : Core) (place : ℕ) (entry : Entry) (bytes : List ℕ) → StandsFor kept core → IsJournal (with_object kept (meta_key (length core.history)) bytes) (core.history ++ entry ∷ []) →
-    StandsFor (record { objects = insert kept.objects (meta_key (length core.history)) bytes; late = remove kept.late place }) (without_late place (record core { standing = Some entry }))
+stands-entry : (kept : State) (core : Core) (place : ℕ) (entry : Entry) (bytes : List ℕ) → IsCoreOf kept core → IsJournal (with_object kept (meta_key (length core.history)) bytes) (core.history ++ entry ∷ []) →
+    IsCoreOf (record { objects = insert kept.objects (meta_key (length core.history)) bytes; late = remove kept.late place }) (without_late place (record core { standing = Some entry }))
 stands-entry kept core place entry bytes s j =
     record {
       journal = journal_late (with_object kept (meta_key (length core.history)) bytes) (remove kept.late place) (core.history ++ entry ∷ []) j;
@@ -115,27 +115,27 @@ pub standing_number : (kept : State) (entries : List Entry) (n : ℕ) → IsJour
 standing_number kept entries n j lt absent =
     true_is_false (sym (Stand-at kept 0 entries n (omega arith) (omega (arith, lt)) (stand-of kept 0 entries None j)) ∙ ap is_some absent)
 
-pub journal_none : (kept : State) (core : Core) → StandsFor kept core → core.standing ≡ None → IsJournal kept core.history
+pub journal_none : (kept : State) (core : Core) → IsCoreOf kept core → core.standing ≡ None → IsJournal kept core.history
 journal_none kept core s none = subst (λ o. IsJournal kept (with_unread core.history o)) none s.journal
 
-pub journal_some : (kept : State) (core : Core) (e : Entry) → StandsFor kept core → core.standing ≡ Some e → IsJournal kept (core.history ++ e ∷ [])
+pub journal_some : (kept : State) (core : Core) (e : Entry) → IsCoreOf kept core → core.standing ≡ Some e → IsJournal kept (core.history ++ e ∷ [])
 journal_some kept core e s some = subst (λ o. IsJournal kept (with_unread core.history o)) some s.journal
 
 pub stands-lands : (kept : State) (core : Core) (log : Log) (place : ℕ) (late : Late) → IsWorld kept core log → slice_get core.late place ≡ Some late → slice_get kept.late place ≡ Some (late_object late) →
-    (there : Option (List ℕ)) → get kept.objects (late_key late) ≡ there → StandsFor (land_where there (late_object late) place kept) (without_late place (late_lands late core))
+    (there : Option (List ℕ)) → get kept.objects (late_key late) ≡ there → IsCoreOf (land_where there (late_object late) place kept) (without_late place (late_lands late core))
 stands-lands kept core log place (late_entry n e b) w at at' there is = by core.standing (n == length core.history) there refl refl is
   where
-    s : StandsFor kept core
+    s : IsCoreOf kept core
     s = w.stands_for
 
     called : (n ≤ length core.history) × CanSpell e × Spells b e
     called = All-get (IsCalled core.history) core.late place (late_entry n e b) s.called at
 
-    entry_at_end : core.standing ≡ None → n ≡ length core.history → StandsFor (record { objects = insert kept.objects (meta_key n) b; late = remove kept.late place }) (without_late place (record core { standing = Some e }))
+    entry_at_end : core.standing ≡ None → n ≡ length core.history → IsCoreOf (record { objects = insert kept.objects (meta_key n) b; late = remove kept.late place }) (without_late place (record core { standing = Some e }))
     entry_at_end none same =
         let index : IsIndexOf kept core.history log = subst (λ o. IsIndexOf kept (with_unread core.history o) log) none w.index in
         let may = All-get (IsLateEntry kept core.history log) kept.late place (meta_key n, b) index.late_entries at' (meta_begins n) in
-        subst (λ k. StandsFor (record { objects = insert kept.objects (meta_key k) b; late = remove kept.late place }) (without_late place (record core { standing = Some e }))) (sym same)
+        subst (λ k. IsCoreOf (record { objects = insert kept.objects (meta_key k) b; late = remove kept.late place }) (without_late place (record core { standing = Some e }))) (sym same)
         (stands-entry kept core place e b s (on index may))
       where
         on : IsIndexOf kept core.history log → IsBelowEnd core.history (meta_key n, b) ⊎ MayLand kept core.history log (meta_key n, b) → IsJournal (with_object kept (meta_key (length core.history)) b) (core.history ++ e ∷ [])
@@ -144,7 +144,7 @@ stands-lands kept core log place (late_entry n e b) w at at' there is = by core.
         on index (inr may) = journal_more kept core.history log e b index.stands may.enters.room called.1 called.2
 
     by : (standing : Option Entry) (test : Bool) (there : Option (List ℕ)) → core.standing ≡ standing → (n == length core.history) ≡ test → get kept.objects (meta_key n) ≡ there →
-        StandsFor (land_where there (meta_key n, b) place kept) (without_late place (entry_lands standing test e core))
+        IsCoreOf (land_where there (meta_key n, b) place kept) (without_late place (entry_lands standing test e core))
     by None true None es et eo = entry_at_end es (eqb-true n (length core.history) et)
     by None true (Some x) es et eo =
         absurd (none_some x (sym (journal-end kept core.history (journal_none kept core s es)) ∙ ap (λ k. get kept.objects (meta_key k)) (sym (eqb-true n (length core.history) et)) ∙ eo))
@@ -168,11 +168,11 @@ stands-lands kept core log place (late_dead key bytes) w at at' None is =
     below None e n lt absent = standing_number kept core.history n (journal_none kept core w.stands_for e) lt absent
     below (Some u) e n lt absent = standing_number kept (core.history ++ u ∷ []) n (journal_some kept core u w.stands_for e) (omega (arith, lt, longer core.history u)) absent
 stands-lands kept core log place (late_file key bytes) w at at' (Some x) is =
-    subst (λ b. StandsFor (lates kept (remove kept.late place)) (without_late place (file_lands b key bytes core)))
+    subst (λ b. IsCoreOf (lates kept (remove kept.late place)) (without_late place (file_lands b key bytes core)))
     (sym (ap is_some (w.stands_for.files key (All-get (IsCalled core.history) core.late place (late_file key bytes) w.stands_for.called at) ∙ is)))
     (stands-over kept core place w.stands_for)
 stands-lands kept core log place (late_file key bytes) w at at' None is =
     let outside = All-get (IsCalled core.history) core.late place (late_file key bytes) w.stands_for.called at in
-    subst (λ b. StandsFor (record { objects = insert kept.objects key bytes; late = remove kept.late place }) (without_late place (file_lands b key bytes core)))
+    subst (λ b. IsCoreOf (record { objects = insert kept.objects key bytes; late = remove kept.late place }) (without_late place (file_lands b key bytes core)))
     (sym (ap is_some (w.stands_for.files key outside ∙ is)))
     (stands-file kept core place key bytes w.stands_for outside is)

@@ -6,8 +6,8 @@ use Rattle.meta_journal.specs.Journal.{Numbered}
 use Rattle.meta_journal.specs.declared.entry.Act.{Act}
 use Rattle.meta_journal.specs.declared.entry.Act.TheVariants.{Fence, Create, Stage, Publish, Replace, Raise, Task, MarkStaged, Remove, Retire}
 use Rattle.meta_journal.specs.declared.entry.Entry.{Entry}
-use Rattle.meta_journal.specs.declared.place.Place.{Place}
-use Rattle.meta_journal.specs.declared.place.Place.TheVariants.{Sure, Unsure, Given}
+use Rattle.meta_journal.specs.declared.place.JournalPlace.{JournalPlace}
+use Rattle.meta_journal.specs.declared.place.JournalPlace.TheVariants.{Sure, Unsure, Given}
 use Rattle.meta_store.proofs.Answered.{answered}
 use Rattle.meta_store.specs.Answers.{answer_to, HasNumbers}
 use Rattle.meta_store.specs.History.{history}
@@ -63,7 +63,7 @@ want_trouble errors.NoIndex h = absurd h
 want_trouble errors.IndexExists h = absurd h
 want_trouble (errors.BadConfig bad) h = absurd h
 
-pub doubt_of : (p : Place) → (p ≡ Sure → ⊥) → is_unsure p ≡ true
+pub doubt_of : (p : JournalPlace) → (p ≡ Sure → ⊥) → is_unsure p ≡ true
 doubt_of Sure h = absurd (h refl)
 doubt_of Unsure h = refl
 doubt_of Given h = refl

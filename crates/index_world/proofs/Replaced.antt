@@ -45,7 +45,7 @@ use Rattle.index_world.specs.Index.{IsAllowed, IsFound, IsStored, IsRowKept, Has
 use Rattle.index_world.specs.Replacing.{AreFetchedIn, AreFilesOf, DropsNone, IsMadeOf, IsRaisable, IsReplaceable, WerePlanned, joined, left_in}
 use Rattle.index_world.specs.Seen.{accepted_records, contents, meaning, rejected_in, replaced}
 use Rattle.index_world.specs.SplitFile.{file_of, facts_of, AreSplit}
-use Rattle.index_world.specs.Standing.{StandsFor}
+use Rattle.index_world.specs.Standing.{IsCoreOf}
 use Rattle.index_world.specs.World.{IsWorld}
 use Rattle.index_world.proofs.Dropping.{left_by_marks, left_alike}
 use Rattle.index_world.proofs.InCore.{uploaded-of}
@@ -74,7 +74,7 @@ AreFetched kept entries [] (bytes ∷ files) = ⊥
 AreFetched kept entries (n ∷ numbers) [] = ⊥
 AreFetched kept entries (n ∷ numbers) (bytes ∷ files) = IsFound kept entries n bytes × AreFetched kept entries numbers files
 
-fetched_of : (kept : State) (core : Core) (old : List ℕ) (files : List (List ℕ)) → StandsFor kept core → AreFetchedIn core old files → AreFetched kept (journal_of core) old files
+fetched_of : (kept : State) (core : Core) (old : List ℕ) (files : List (List ℕ)) → IsCoreOf kept core → AreFetchedIn core old files → AreFetched kept (journal_of core) old files
 fetched_of kept core [] [] s f = tt
 fetched_of kept core [] (bytes ∷ files) s f = absurd f
 fetched_of kept core (n ∷ old) [] s f = absurd f

@@ -7,8 +7,8 @@ use Rattle.meta_journal.specs.Spelling.{CanSpell}
 use Rattle.meta_journal.specs.declared.entry.Entry.{Entry}
 use Rattle.meta_journal.specs.declared.journal_error.JournalError.{JournalError}
 use Rattle.meta_journal.specs.declared.journal_error.JournalError.TheVariants as journal
-use Rattle.meta_journal.specs.declared.place.Place.{Place}
-use Rattle.meta_journal.specs.declared.place.Place.TheVariants.{Sure}
+use Rattle.meta_journal.specs.declared.place.JournalPlace.{JournalPlace}
+use Rattle.meta_journal.specs.declared.place.JournalPlace.TheVariants.{Sure}
 use Rattle.object_store.specs.Store.{State, WhereTold}
 use Rattle.source_log.specs.Log.{Log}
 use Rattle.index_world.specs.declared.life.Life.{Life}
@@ -23,7 +23,7 @@ use Rattle.index_world.proofs.JournalLaws.{settles_ok, settles_short, settles_fa
 use Rattle.index_world.proofs.Lives.{Told, told_of, want_trouble, doubt_of, knows_of, life_on, life_taken, stands_by, allowed_last, answers_allowed}
 use Rattle.index_world.proofs.Transacting.{settled_ends, timely_more, timely_unsettled}
 
-pub refused_doubt : (p : Place) (x : JournalError) → (p ≡ Sure → ⊥) → is_unsure (place_refused p x) ≡ true
+pub refused_doubt : (p : JournalPlace) (x : JournalError) → (p ≡ Sure → ⊥) → is_unsure (place_refused p x) ≡ true
 refused_doubt p (journal.Memory a) h = doubt_of p h
 refused_doubt p (journal.StoreFault low high) h = refl
 refused_doubt p (journal.Corrupt key) h = doubt_of p h

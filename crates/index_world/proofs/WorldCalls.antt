@@ -18,7 +18,7 @@ use Rattle.index_world.specs.Calls as calls
 use Rattle.index_world.specs.Config.{reads}
 use Rattle.index_world.specs.Core.{Core, Late, late_entry, late_dead, late_file, with_unread, journal_of, IsLive}
 use Rattle.index_world.specs.Index.{IsIndexOf, IsTaken, MayEnter, IsUnused, IsStored, HasStaged}
-use Rattle.index_world.specs.Standing.{late_object, IsCalled, StandsFor}
+use Rattle.index_world.specs.Standing.{late_object, IsCalled, IsCoreOf}
 use Rattle.index_world.specs.World.{IsWorld}
 use Rattle.index_world.specs.Held.{KeepsFor, KeepsHeld, All, But, Still, Enters}
 use Rattle.index_world.specs.Onward.{Onward}
@@ -59,7 +59,7 @@ world-enters kept core log entry bytes unsure w none spells keeps may =
     new : State
     new = with_object kept (meta_key (length core.history)) bytes
 
-    s : StandsFor kept core
+    s : IsCoreOf kept core
     s = w.stands_for
 
     enters : Enters kept new core.history log entry
@@ -100,7 +100,7 @@ world-tried kept core log entry bytes w can spells keeps may =
       live = live-on core (record core { late = core.late ++ late_entry (length core.history) entry bytes ∷ []; unsure = true }) (record { history = refl; marks = refl; moment = omega arith });
     }
   where
-    s : StandsFor kept core
+    s : IsCoreOf kept core
     s = w.stands_for
 
 -- ---- what stands unread is taken in
@@ -167,7 +167,7 @@ world-file kept core log n bytes w u =
       f.2,
     )
   where
-    s : StandsFor kept core
+    s : IsCoreOf kept core
     s = w.stands_for
 
 pub world-file-late : (kept : State) (core : Core) (log : Log) (n : ℕ) (bytes : List ℕ) → IsWorld kept core log → IsUnused kept (journal_of core) n →
@@ -190,5 +190,5 @@ world-file-late kept core log n bytes w u =
       live = live-on core (calls.with_late (late_file (split_key n) bytes) core) (record { history = refl; marks = refl; moment = omega arith });
     }
   where
-    s : StandsFor kept core
+    s : IsCoreOf kept core
     s = w.stands_for

@@ -9,7 +9,7 @@ use Rattle.source_log.specs.Log.{Log}
 use Rattle.index_world.specs.Calls.{all_landed, land_at, late_lands, entry_lands, file_lands, without_late, reborn}
 use Rattle.index_world.specs.Core.{Core, Late, late_entry, late_dead, late_file, late_key, file_at, with_unread, journal_of}
 use Rattle.index_world.specs.Index.{OneEntry, IsIndexOf, IsTaken, MayEnter}
-use Rattle.index_world.specs.Standing.{late_object, StandsFor}
+use Rattle.index_world.specs.Standing.{late_object, IsCoreOf}
 use Rattle.index_world.specs.World.{IsWorld}
 use Rattle.index_world.specs.Held.{KeepsHeld, All}
 use Rattle.index_world.specs.Onward.{Onward, Reread, SameLife, Landing}
@@ -26,7 +26,7 @@ taken_on old new core after log more w life h =
     subst (λ es. IsTaken new es log) (sym life) (taken_held old core.history core.standing log w.index.stands All All new more h (λ x own e. tt) w.taken)
 
 -- where the core stands for the store and the store is an index, it is one of the core's journal
-pub onward-of : OneEntry → (old new : State) (core after : Core) (log : Log) (more : List Entry) → IsWorld old core log → IsLater core after → RemovesInTime after → StandsFor new after → IsIndexOf new more log →
+pub onward-of : OneEntry → (old new : State) (core after : Core) (log : Log) (more : List Entry) → IsWorld old core log → IsLater core after → RemovesInTime after → IsCoreOf new after → IsIndexOf new more log →
     KeepsHeld old new (journal_of core) more → Onward old new core after log
 onward-of once old new core after log more w later removes s i h =
     record {
@@ -127,7 +127,7 @@ was-lands (late_file key bytes) place core h = by (is_some (file_at core.files k
 pub journal_is_history : (core : Core) → core.standing ≡ None → journal_of core ≡ core.history
 journal_is_history core none = ap (with_unread core.history) none
 
-landing-of : OneEntry → (kept new : State) (core after : Core) (log : Log) → IsWorld kept core log → RemovesInTime after → StandsFor new after → SameLife core after → (after.standing ≡ None → core.standing ≡ None) → Lands kept new (journal_of core) log →
+landing-of : OneEntry → (kept new : State) (core after : Core) (log : Log) → IsWorld kept core log → RemovesInTime after → IsCoreOf new after → SameLife core after → (after.standing ≡ None → core.standing ≡ None) → Lands kept new (journal_of core) log →
     Landing kept new core after log
 landing-of once kept new core after log w removes s same was (inl h) =
     record {

@@ -191,7 +191,7 @@ abbrev pub task_act : DeleteAsk → Core → Act
 task_act ask core = Task (last_opstamp (history core.history) + 1) ask.text ask.fields ask.times
 
 -- its texts are UTF-8, as the journal spells them
-pub record CanAsk (ask : DeleteAsk) : Type 0 where
+pub record CanAddTask (ask : DeleteAsk) : Type 0 where
   pub text : IsText ask.text
   pub fields : AreAll IsText ask.fields
 

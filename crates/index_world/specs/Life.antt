@@ -5,7 +5,7 @@ use Rattle.meta_journal.specs.Spelling.{CanSpell, CanSpellAct}
 use Rattle.meta_journal.specs.declared.entry.Act.{Act}
 use Rattle.meta_journal.specs.declared.entry.Act.TheVariants as acts
 use Rattle.meta_journal.specs.declared.entry.Entry.{Entry}
-use Rattle.meta_journal.specs.declared.place.Place.TheVariants.{Sure, Given}
+use Rattle.meta_journal.specs.declared.place.JournalPlace.TheVariants.{Sure, Given}
 use Rattle.meta_store.specs.Answers.{answer_to}
 use Rattle.meta_store.specs.History.{history, moment_of}
 use Rattle.meta_store.specs.Readings.{reading_of}

@@ -11,7 +11,7 @@ use Rattle.index_world.specs.Collecting.{doomed_rows, marks_offer, removal_of}
 use Rattle.index_world.specs.Config.{reads}
 use Rattle.index_world.specs.Configuration.{config_or, index_of}
 use Rattle.index_world.specs.Core.{Core}
-use Rattle.index_world.specs.Gate.{CanAsk, IsPublishable}
+use Rattle.index_world.specs.Gate.{CanAddTask, IsPublishable}
 use Rattle.index_world.specs.Replacing.{IsReplaceable, IsRaisable, numbers_of}
 use Rattle.source_log.specs.Log.{Log}
 use Rattle.index_world.specs.declared.own.Offer.{Offer}
@@ -23,7 +23,7 @@ CanOwn (Stage delta facts) = CanSpellFacts facts.now
 CanOwn (Publish number) = number < 2 ^ 64
 CanOwn (Replace plan number upto) = IsNumber number × IsNumber upto
 CanOwn (Raise number upto) = IsNumber number × IsNumber upto
-CanOwn (Task ask) = CanAsk ask.now
+CanOwn (Task ask) = CanAddTask ask.now
 CanOwn MarkStale = ⊤
 CanOwn Remove = ⊤
 

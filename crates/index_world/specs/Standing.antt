@@ -19,7 +19,7 @@ IsCalled entries (late_dead key bytes) = (number : ℕ) × (number < length entr
 IsCalled entries (late_file key bytes) = is_meta key ≡ false
 
 -- the core stands for what the store tells: its history with what stands unread behind it is the journal
-pub record StandsFor (kept : State) (core : Core) : Type 0 where
+pub record IsCoreOf (kept : State) (core : Core) : Type 0 where
   pub journal : IsJournal kept (journal_of core)
   pub files : (key : List ℕ) → is_meta key ≡ false → file_at core.files key ≡ get kept.objects key
   pub late : map late_object core.late ≡ kept.late

@@ -10,13 +10,13 @@ use Rattle.index_world.specs.Config.{reads}
 use Rattle.index_world.specs.Core.{Core, KeepsFor, IsOther, IsPlannedIn, Marking, journal_of, taken_at, is_in}
 use Rattle.index_world.specs.Index.{IsIndexOf, IsTaken, max_entries}
 use Rattle.index_world.specs.Releases.{MayFree, RemovesInTime}
-use Rattle.index_world.specs.Standing.{StandsFor}
+use Rattle.index_world.specs.Standing.{IsCoreOf}
 
 -- THE WORLD'S INVARIANT: the core stands for the store, and the store is an index whose journal is the core's
 -- history with what stands unread behind it. The rows of the history are kept too: what stands unread may have marked them, and
 -- plans go by the history.
 pub record IsWorld (kept : State) (core : Core) (log : Log) : Type 0 where
-  pub stands_for : StandsFor kept core
+  pub stands_for : IsCoreOf kept core
   pub index : IsIndexOf kept (journal_of core) log
   pub taken : IsTaken kept core.history log
   -- what may still be taken in removes rows alone whose grace has passed, also behind the moment where their marking was taken in

@@ -15,7 +15,7 @@ ghost use Rattle.index_world.specs.CallsMade.{CallMade, of_checkpoints, of_momen
 ghost use Rattle.index_world.specs.Core.{Core, IsConfigured, IsUnusedIn, Nobody};
 ghost use Rattle.index_world.specs.Collected.{SweepsFile};
 ghost use Rattle.index_world.specs.Collecting.{doom_call, IsSweepPage, list_call, mark_stale_call, remove_call, sweep_call};
-ghost use Rattle.index_world.specs.Gate.{CanAsk, Does, DoesWith, IsGiven, IsReceipt, raise_call, replace_call, task_call, fetched_more, grace_of, IsSoundCore, IsTrouble, IsUnmade, IsUnfetched, AreMarks, IsMoment, stage_call, WasStaged, WasUploaded, publish_call, IsPublishable, IsRevision, IsPlan, IsPieceGiven};
+ghost use Rattle.index_world.specs.Gate.{CanAddTask, Does, DoesWith, IsGiven, IsReceipt, raise_call, replace_call, task_call, fetched_more, grace_of, IsSoundCore, IsTrouble, IsUnmade, IsUnfetched, AreMarks, IsMoment, stage_call, WasStaged, WasUploaded, publish_call, IsPublishable, IsRevision, IsPlan, IsPieceGiven};
 ghost use Rattle.index_world.specs.Replacing.{IsRaisable, IsReplaceable, numbers_of};
 ghost use Rattle.index_world.specs.Config.{reads};
 ghost use Rattle.index_world.specs.World.{GoesFor};
@@ -226,7 +226,7 @@ pub trait Gate {
     /// Adds a task that removes what it matches of all that was taken in before it. Refused as the state answers to that task: where
     /// its query doesn't read, and where so many tasks stand already.
     fn add_task(&mut self, alloc: Global, ask: &DeleteAsk) -> Result<Receipt, WorldError>
-        requires { CanAsk ask.now }
+        requires { CanAddTask ask.now }
         ensures later { since self.old self.new }
         ensures answered { Answers self.old (task_answered ask.now result) self.new }
         ensures same { bytes_fetched self.new ≡ bytes_fetched self.old }

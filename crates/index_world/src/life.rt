@@ -37,7 +37,7 @@ impl Life {
     ghost use Rattle.std.specs.Prelude.{◌≡◌, ◌≤◌, ◌+◌, OnOk, IfOk, IfErr, IsOk, MatchResult, Some, length, vec_len, vec_capacity};
     ghost use Rattle.meta_store.specs.Readings as read;
     ghost use Rattle.index_world.specs.Config.{reads};
-    ghost use Rattle.meta_journal.specs.declared.place.Place.TheVariants.{Sure, Given};
+    ghost use Rattle.meta_journal.specs.declared.place.JournalPlace.TheVariants.{Sure, Given};
     ghost use Rattle.object_store.specs.Store.{State, WhereTold};
     ghost use Rattle.source_log.specs.Log.{Log};
     ghost use Rattle.index_world.specs.Answering.{Follows, KeepsEntries, SettlesNot, answer_in};

@@ -6,7 +6,7 @@ ghost use Rattle.meta_journal.specs.declared.entry.Act.TheVariants as acts;
 ghost use Rattle.split_states.specs.Rows.{rising};
 ghost use Rattle.index_world.specs.Collecting.{doomed_rows, marks_offer, removal_of};
 ghost use Rattle.index_world.specs.Core.{is_in};
-ghost use Rattle.index_world.specs.Gate.{CanAsk};
+ghost use Rattle.index_world.specs.Gate.{CanAddTask};
 ghost use Rattle.index_world.specs.Owning.{CanOwn, offer_in, offer_of};
 ghost use Rattle.index_world.specs.Replacing.{numbers_of};
 
@@ -190,7 +190,7 @@ fn fitting_times(times: TimeRange) -> TimeRange
 
 // What a delete that is asked for is, as the task with this opstamp.
 fn offer_to_add(alloc: Global, ask: &DeleteAsk, opstamp: u64) -> Result<Option<Offer>, AllocError>
-    requires { CanAsk ask.now }
+    requires { CanAddTask ask.now }
     ensures can { IfOk result (λ offer. IfSome offer (λ o. CanSpellAct o.act)) }
     ensures same { IfOk result (λ offer. offer_of offer ≡ Some (record { act = acts.Task opstamp ask.now.text ask.now.fields ask.now.times; answer = 0 })) }
 {

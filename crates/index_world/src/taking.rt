@@ -3,7 +3,7 @@
 ghost use Rattle.std.specs.Prelude.{◌≡◌, ◌<◌, ◌≤◌, ◌+◌, ◌^◌, [], OnOk, IfOk, IfErr, IsOk, IsSome, None, Some, length, vec_len, vec_capacity};
 ghost use Rattle.std.specs.List.{AllByRecursion};
 ghost use Rattle.index_world.specs.Index.{max_entries};
-ghost use Rattle.meta_journal.specs.declared.place.Place.TheVariants.{Sure};
+ghost use Rattle.meta_journal.specs.declared.place.JournalPlace.TheVariants.{Sure};
 ghost use Rattle.meta_store.specs.Answers.{answer_to};
 ghost use Rattle.meta_store.specs.History.{history};
 ghost use Rattle.meta_store.specs.History as told;

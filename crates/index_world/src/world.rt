@@ -20,7 +20,7 @@ ghost use Rattle.index_world.specs.Created.{CreatesIndex, CreatesNot, CreatesWor
 ghost use Rattle.index_config.specs.Answer.{config_answer};
 ghost use Rattle.index_world.specs.Collected.{SweepsFile};
 ghost use Rattle.index_world.specs.Collecting.{is_swept_by, doom_call, IsSweepPage, list_call, mark_stale_call, remove_call, sweep_call};
-ghost use Rattle.index_world.specs.Gate.{Acts, ActsWith, CanAsk, IsGiven, IsReceipt, raise_call, replace_call, task_call, grace_of, IsTrouble, IsUnmade, IsUnfetched, AreMarks, IsMoment, stage_call, WasStaged, WasUploaded, publish_call, IsPublishable, IsRevision, IsPlan, IsPieceGiven};
+ghost use Rattle.index_world.specs.Gate.{Acts, ActsWith, CanAddTask, IsGiven, IsReceipt, raise_call, replace_call, task_call, grace_of, IsTrouble, IsUnmade, IsUnfetched, AreMarks, IsMoment, stage_call, WasStaged, WasUploaded, publish_call, IsPublishable, IsRevision, IsPlan, IsPieceGiven};
 ghost use Rattle.index_world.specs.Replacing.{IsRaisable, IsReplaceable, numbers_of};
 ghost use Rattle.index_world.specs.Loading.{LoadsWorld, LoadsNone, LoadsAnew};
 ghost use Rattle.index_world.specs.Taking.{IsFaultBetween};
@@ -526,7 +526,7 @@ impl<S: ObjectStore, C: SteadyClock> World<S, C> {
     /// Adds a task that removes what it matches of all that was taken in before it. Refused as the state answers to that task: where
     /// its query doesn't read, and where so many tasks stand already.
     pub fn add_task(&mut self, alloc: Global, ask: &DeleteAsk) -> Result<Receipt, WorldError>
-        requires { CanAsk ask.now }
+        requires { CanAddTask ask.now }
         ensures step { (core : Core) (log : Log) → WorldStands self.old core log →
             Acts WorldStands None (task_call ask.now) IsUnmade IsReceipt result core log self.new }
         // Over every store, sound or not.

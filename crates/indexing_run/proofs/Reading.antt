@@ -34,7 +34,7 @@ use Rattle.indexing_run.specs.Outcomes as outcomes
 use Rattle.indexing_run.specs.Outcomes.{IndexerOutcome}
 use Rattle.indexing_run.specs.Places.{Batch, Place, idle, reading, Indexer, number_held}
 use Rattle.indexing_run.specs.Standing.{Answers, BatchStands, ReadsOn, PlaceStands, IndexerStands, NamesGiven, StepsAs, batch_read, next_read}
-use Rattle.indexing_run.specs.Steps.{is_empty, Luck, stepped, taken_from, start_of, batch_after, read_limit, fresh_batch, marks_at, partitions_for, log_may_fail, trouble_outcome, batch_facts, checkpoints_given, idle_by, idle_unless, read_by, read_asked, step_read, step_stage, step_place, or_short, step_indexer}
+use Rattle.indexing_run.specs.Steps.{is_empty, IndexerLuck, stepped, taken_from, start_of, batch_after, read_limit, fresh_batch, marks_at, partitions_for, log_may_fail, trouble_outcome, batch_facts, checkpoints_given, idle_by, idle_unless, read_by, read_asked, step_read, step_stage, step_place, or_short, step_indexer}
 use Rattle.indexing_run.proofs.Batches.{fresh_is_batch, read_taken, read_keeps, slice_of}
 use Rattle.indexing_run.proofs.Light.{light}
 use Rattle.indexing_run.proofs.Steps.{assigned_apart}
@@ -80,7 +80,7 @@ rose_may before now rose a b = rw (risen_is before now a b) (by before now rose 
 
 -- ---- a step with a call of the log
 
-abbrev pub log_luck : Bool → ℕ → Bool → Fate → Bool → Luck
+abbrev pub log_luck : Bool → ℕ → Bool → Fate → Bool → IndexerLuck
 log_luck fails rises names_short world short = record { log = record { fails = fails; rises = rises; short = names_short }; world = world; short = short }
 
 end_same : (e : Bool) (all from some limit : ℕ) → (IsTrue e ↔ (all ≤ from + some)) → some ≡ min limit (all - from) → e ≡ nat_le (all - from) limit
@@ -176,7 +176,7 @@ module _ {L W : Type 0} (tells : L → Option Log) (count : L → ℕ) (Stands :
       record { told = told; log_faults = counted ∙ sym (risen_is indexer.log_faults now later within); assignment = kept ∙ s.assignment; assigned = s.assigned; place = h }
 
   -- it stands for this, and holds no number
-  ends_called : (before place : Place) (held : HeldPlace) (result : Result Said AllocError) (mid after : Core) (luck : Luck) (outcome : Option IndexerOutcome) →
+  ends_called : (before place : Place) (held : HeldPlace) (result : Result Said AllocError) (mid after : Core) (luck : IndexerLuck) (outcome : Option IndexerOutcome) →
       Called Stands Between Owns Adds (number_held before) (ask_of before) (IsCallFree before outcome) core log old new mid after →
       step_indexer luck log (record indexer { place = before }) mid ≡ record { outcome = outcome; indexer = record indexer { place = place; log_faults = risen indexer.log_faults (now - indexer.log_faults) }; core = after } →
       Answers result outcome → number_held place ≡ None → PlaceStands log after held place →
@@ -207,7 +207,7 @@ module _ {L W : Type 0} (tells : L → Option Log) (count : L → ℕ) (Stands :
     asked_called : (free : Type 0) → Called Stands Between Owns Adds None (ask_of (reading batch)) free core log old new a.mid a.behind
     asked_called free = called_as a.called None (ask_of (reading batch)) free (λ n other. other) (asks_moment batch closed) (λ short. absurd short)
 
-    read_did : (luck : Luck) → luck.world ≡ a.fate → step_place (reading batch) luck log (record indexer { place = reading batch }) a.mid
+    read_did : (luck : IndexerLuck) → luck.world ≡ a.fate → step_place (reading batch) luck log (record indexer { place = reading batch }) a.mid
         ≡ read_by (log_may_fail luck.log indexer.log_faults) luck log batch mark rest (record indexer { place = reading batch }) a.behind
     read_did luck same =
         ap (λ b. if b then (if batch.count == 0 then stepped (Some outcomes.CaughtUp) idle (record indexer { place = reading batch }) a.mid else step_stage luck batch (record indexer { place = reading batch }) a.mid)
@@ -367,7 +367,7 @@ module _ {L W : Type 0} (tells : L → Option Log) (count : L → ℕ) (Stands :
     named_stands held place after h =
         record { told = told; log_faults = counted; assignment = kept ∙ s.assignment; assigned = s.assigned; place = h }
 
-    ends_named : (place : Place) (held : HeldPlace) (result : Result Said AllocError) (mid after : Core) (luck : Luck) (outcome : Option IndexerOutcome) →
+    ends_named : (place : Place) (held : HeldPlace) (result : Result Said AllocError) (mid after : Core) (luck : IndexerLuck) (outcome : Option IndexerOutcome) →
         Called Stands Between Owns Adds None of_checkpoints (IsCallFree idle outcome) core log old new mid after →
         step_indexer luck log (record indexer { place = idle }) mid ≡ record { outcome = outcome; indexer = record indexer { place = place; log_faults = now }; core = after } →
         Answers result outcome → number_held place ≡ None → PlaceStands log after held place →

@@ -39,14 +39,14 @@ use Rattle.indexing_run.specs.Outcomes as outcomes
 use Rattle.indexing_run.specs.Outcomes.{IndexerOutcome}
 use Rattle.indexing_run.specs.Places.{Batch, Held, Place, idle, reading, staged, uploaded, Indexer, IsStagedHeld, number_held}
 use Rattle.indexing_run.specs.Standing.{Answers, PlaceStands, IndexerStands, StepsAs}
-use Rattle.indexing_run.specs.Steps.{LogCall, Luck, stepped, trouble_outcome, publish_given, publish_outcome, publish_by, upload_given, upload_by, stage_given, stage_by, stage_outcome, step_stage, step_read, step_indexer, held_of, batch_facts}
+use Rattle.indexing_run.specs.Steps.{LogCall, IndexerLuck, stepped, trouble_outcome, publish_given, publish_outcome, publish_by, upload_given, upload_by, stage_given, stage_by, stage_outcome, step_stage, step_read, step_indexer, held_of, batch_facts}
 use Rattle.indexing_run.proofs.Holding.{staged_is_held, uploaded_is_held}
 
 abbrev pub quiet_log : LogCall
 quiet_log = record { fails = false; rises = 0; short = false }
 
 -- a step that calls no log and finds its memory
-abbrev pub by_world : Fate → Luck
+abbrev pub by_world : Fate → IndexerLuck
 by_world fate = record { log = quiet_log; world = fate; short = false }
 
 -- ---- a call, or none
@@ -166,7 +166,7 @@ module _ {L W : Type 0} (tells : L → Option Log) (count : L → ℕ) (Stands :
       record { told = s.told; log_faults = s.log_faults; assignment = s.assignment; assigned = s.assigned; place = idle_stays log core after reader.place s.place }
 
   -- a step behind which it is idle
-  pub ends_idle : (place : Place) (result : Result Said AllocError) (mid after : Core) (luck : Luck) (outcome : Option IndexerOutcome) →
+  pub ends_idle : (place : Place) (result : Result Said AllocError) (mid after : Core) (luck : IndexerLuck) (outcome : Option IndexerOutcome) →
       Called Stands Between Owns Adds (number_held place) (ask_of place) (IsCallFree place outcome) core log old new mid after →
       step_indexer luck log (record indexer { place = place }) mid ≡ record { outcome = outcome; indexer = record indexer { place = idle }; core = after } → Answers result outcome →
       StepsAs tells count Stands Between Owns Adds result (record indexer { place = place }) core log reader old new

@@ -29,7 +29,7 @@ use Rattle.indexing_run.specs.Gathering.{HasDocuments}
 use Rattle.indexing_run.specs.Making.{Follows, IsBatch, IsAssigned}
 use Rattle.indexing_run.specs.Outcomes.{IndexerOutcome, Checkpoint, Read, Staged, Uploaded, Published, CaughtUp, Stale, Lost, Refused, SourceFault, Faulted}
 use Rattle.indexing_run.specs.Places.{Batch, Held, Place, idle, reading, staged, uploaded, Indexer, IsStagedHeld, IsUploadedHeld, number_held}
-use Rattle.indexing_run.specs.Steps.{taken_from, max_batch_weight, start_of, batch_after, Luck, step_indexer}
+use Rattle.indexing_run.specs.Steps.{taken_from, max_batch_weight, start_of, batch_after, IndexerLuck, step_indexer}
 
 -- ---- outcomes
 
@@ -145,7 +145,7 @@ pub record StepsAs {L W : Type 0} (tells : L → Option Log) (count : L → ℕ)
   pub mid : Core
   pub passed : Between core mid
   pub owned : (number : ℕ) → Owns old number → IsUnusedIn core number → IsUnusedIn mid number
-  pub luck : Luck
+  pub luck : IndexerLuck
   pub outcome : Option IndexerOutcome
   pub after : Indexer
   pub behind : Core

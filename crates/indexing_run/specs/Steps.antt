@@ -33,7 +33,7 @@ pub record LogCall : Type 0 where
   pub short : Bool
 
 -- the fate of one step: its call of a log, its call of the world, and whether it finds no memory behind them
-pub record Luck : Type 0 where
+pub record IndexerLuck : Type 0 where
   pub log : LogCall
   pub world : Fate
   pub short : Bool
@@ -84,11 +84,11 @@ checkpoints_by (Err trouble) log indexer core = stepped (trouble_outcome trouble
 abbrev pub checkpoints_given : Log → Indexer → Gives Trouble ⊤ → Stepped
 checkpoints_given log indexer given = checkpoints_by given.answer log indexer given.core
 
-abbrev pub take_checkpoints : Luck → Log → Indexer → Core → Stepped
+abbrev pub take_checkpoints : IndexerLuck → Log → Indexer → Core → Stepped
 take_checkpoints luck log indexer core = checkpoints_given log indexer (looked luck.world core)
 
 -- the names are read from the log where there is no assignment
-abbrev pub idle_by : Bool → Option (List (List ℕ)) → Luck → Log → Indexer → Core → Stepped
+abbrev pub idle_by : Bool → Option (List (List ℕ)) → IndexerLuck → Log → Indexer → Core → Stepped
 idle_by true None luck log indexer core =
     stepped (Some (said.SourceFault indexer.log_faults (risen indexer.log_faults luck.log.rises))) idle (log_called luck.log indexer) core
 idle_by false None luck log indexer core = take_checkpoints luck log (log_called luck.log indexer) core
@@ -96,11 +96,11 @@ idle_by true (Some names) luck log indexer core = take_checkpoints luck log inde
 idle_by false (Some names) luck log indexer core = take_checkpoints luck log indexer core
 
 -- without memory for the names nothing more is done
-abbrev pub idle_unless : Bool → Luck → Log → Indexer → Core → Stepped
+abbrev pub idle_unless : Bool → IndexerLuck → Log → Indexer → Core → Stepped
 idle_unless true luck log indexer core = stepped None idle (log_called luck.log indexer) core
 idle_unless false luck log indexer core = idle_by (log_may_fail luck.log indexer.log_faults) indexer.assignment luck log indexer core
 
-abbrev pub step_idle : Luck → Log → Indexer → Core → Stepped
+abbrev pub step_idle : IndexerLuck → Log → Indexer → Core → Stepped
 step_idle luck log indexer core = idle_unless luck.log.short luck log indexer core
 
 -- ---- reading
@@ -196,23 +196,23 @@ read_current batch mark rest behind indexer core =
     (taken_from batch.config mark.partition mark.at (take (read_limit batch) behind) (start_of batch))
     (nat_le (length behind) (read_limit batch)) batch mark rest indexer core
 
-abbrev pub read_by : Bool → Luck → Log → Batch → Checkpoint → List Checkpoint → Indexer → Core → Stepped
+abbrev pub read_by : Bool → IndexerLuck → Log → Batch → Checkpoint → List Checkpoint → Indexer → Core → Stepped
 read_by true luck log batch mark rest indexer core =
     stepped (Some (said.SourceFault indexer.log_faults (risen indexer.log_faults luck.log.rises))) (reading batch) (log_called luck.log indexer) core
 read_by false luck log batch mark rest indexer core =
     read_current batch mark rest (drop mark.at (records_of log mark.partition)) (log_called luck.log indexer) core
 
 -- the moment is asked first
-abbrev pub read_given : Luck → Log → Batch → Checkpoint → List Checkpoint → Indexer → Result ⊤ Trouble → Core → Stepped
+abbrev pub read_given : IndexerLuck → Log → Batch → Checkpoint → List Checkpoint → Indexer → Result ⊤ Trouble → Core → Stepped
 read_given luck log batch mark rest indexer (Err trouble) core = stepped (trouble_outcome trouble) idle indexer core
 read_given luck log batch mark rest indexer (Ok done) core =
     read_by (log_may_fail luck.log indexer.log_faults) luck log batch mark rest indexer core
 
-abbrev pub read_asked : Luck → Log → Batch → Checkpoint → List Checkpoint → Indexer → Gives Trouble ⊤ → Stepped
+abbrev pub read_asked : IndexerLuck → Log → Batch → Checkpoint → List Checkpoint → Indexer → Gives Trouble ⊤ → Stepped
 read_asked luck log batch mark rest indexer given = read_given luck log batch mark rest indexer given.answer given.core
 
 -- a batch that has nothing to read is closed, so the first case doesn't come
-abbrev pub step_read : Luck → Log → Batch → List Checkpoint → Indexer → Core → Stepped
+abbrev pub step_read : IndexerLuck → Log → Batch → List Checkpoint → Indexer → Core → Stepped
 step_read luck log batch [] indexer core = stepped (Some said.CaughtUp) idle indexer core
 step_read luck log batch (mark ∷ rest) indexer core =
     read_asked luck log batch mark rest indexer (asked luck.world core)
@@ -238,7 +238,7 @@ stage_by (Err unmade) batch indexer core = stepped (stage_outcome unmade) idle i
 abbrev pub stage_given : Batch → Indexer → Gives Unmade ⊤ → Stepped
 stage_given batch indexer given = stage_by given.answer batch indexer given.core
 
-abbrev pub step_stage : Luck → Batch → Indexer → Core → Stepped
+abbrev pub step_stage : IndexerLuck → Batch → Indexer → Core → Stepped
 step_stage luck batch indexer core = stage_given batch indexer (stage_call batch.parts (batch_facts batch) luck.world core)
 
 abbrev pub upload_by : Result ⊤ Trouble → Held → Indexer → Core → Stepped
@@ -248,7 +248,7 @@ upload_by (Err trouble) held indexer core = stepped (trouble_outcome trouble) id
 abbrev pub upload_given : Held → Indexer → Gives Trouble ⊤ → Stepped
 upload_given held indexer given = upload_by given.answer held indexer given.core
 
-abbrev pub step_upload : Luck → Held → Indexer → Core → Stepped
+abbrev pub step_upload : IndexerLuck → Held → Indexer → Core → Stepped
 step_upload luck held indexer core = upload_given held indexer (upload_made luck.world held.number (file_of held.config held.documents) core)
 
 -- a refused Publish: the delta's own stale part, or else the row is lost
@@ -282,18 +282,18 @@ publish_by (Err unmade) held indexer core = stepped (publish_outcome held.number
 abbrev pub publish_given : Held → Indexer → Gives Unmade ⊤ → Stepped
 publish_given held indexer given = publish_by given.answer held indexer given.core
 
-abbrev pub step_publish : Luck → Held → Indexer → Core → Stepped
+abbrev pub step_publish : IndexerLuck → Held → Indexer → Core → Stepped
 step_publish luck held indexer core = publish_given held indexer (publish_call held.number luck.world core)
 
 -- ---- a step
 
-abbrev pub step_batch : Luck → Log → Batch → Indexer → Core → Stepped
+abbrev pub step_batch : IndexerLuck → Log → Batch → Indexer → Core → Stepped
 step_batch luck log batch indexer core =
     if batch.closed
     then (if batch.count == 0 then stepped (Some said.CaughtUp) idle indexer core else step_stage luck batch indexer core)
     else step_read luck log batch batch.queue indexer core
 
-abbrev pub step_place : Place → Luck → Log → Indexer → Core → Stepped
+abbrev pub step_place : Place → IndexerLuck → Log → Indexer → Core → Stepped
 step_place idle luck log indexer core = step_idle luck log indexer core
 step_place (reading batch) luck log indexer core = step_batch luck log batch indexer core
 step_place (staged held) luck log indexer core = step_upload luck held indexer core
@@ -304,5 +304,5 @@ abbrev pub or_short : Bool → Stepped → Stepped
 or_short true step = stepped None idle step.indexer step.core
 or_short false step = step
 
-abbrev pub step_indexer : Luck → Log → Indexer → Core → Stepped
+abbrev pub step_indexer : IndexerLuck → Log → Indexer → Core → Stepped
 step_indexer luck log indexer core = or_short luck.short (step_place indexer.place luck log indexer core)

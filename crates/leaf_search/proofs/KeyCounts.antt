@@ -30,7 +30,7 @@ use Rattle.split_bundle.specs.Wholes.{HaveAll}
 use Rattle.split_bundle.specs.declared.part_view.PartView.{PartView}
 use Rattle.doc_sets.specs.declared.dictionary_lookup.Lookup.TheVariants.{Count}
 use Rattle.doc_sets.specs.declared.leaf_error.LeafError.{LeafError}
-use Rattle.doc_sets.specs.Faults.{HasCause, IsMemory}
+use Rattle.doc_sets.specs.Faults.{LacksPart, IsMemory}
 use Rattle.doc_sets.specs.Needed.{IsBlockFor, token_keys}
 use Rattle.doc_sets.proofs.Causes.{cause_wider}
 use Rattle.doc_sets.proofs.WithinFile.{lookups_within, only_memory}
@@ -214,17 +214,17 @@ module _ (v : PartView) (s : Schema) (ds : List Placed) (p : Parts) (r : LeafReq
   pub counted_lookups : (key : List ℕ) → counted_key s r ≡ some key → request_lookups v.footer s r ≡ Count key ∷ []
   counted_lookups key same = ap (λ (o : Option (List ℕ)). option_map_or (λ k. Count k ∷ []) o (lookups_of v.footer s (view r.query))) same
 
-  pub counted_cause : (key : List ℕ) (e : LeafError) → counted_key s r ≡ some key → HasCause (IsBlockFor v s ds p key) v.pieces e → HasCause (AsksLeaf v s ds p r) v.pieces e
+  pub counted_cause : (key : List ℕ) (e : LeafError) → counted_key s r ≡ some key → LacksPart (IsBlockFor v s ds p key) v.pieces e → LacksPart (AsksLeaf v s ds p r) v.pieces e
   counted_cause key e same cause =
-      subst (λ (o : Option (List ℕ)). HasCause (AsksWith v s ds p r (option_map_or (λ k. Count k ∷ []) o (lookups_of v.footer s (view r.query)))) v.pieces e) (sym same)
+      subst (λ (o : Option (List ℕ)). LacksPart (AsksWith v s ds p r (option_map_or (λ k. Count k ∷ []) o (lookups_of v.footer s (view r.query)))) v.pieces e) (sym same)
       (cause_wider (IsBlockFor v s ds p key) (AsksWith v s ds p r (Count key ∷ [])) v.pieces e (λ at len b. inl (inl b)) cause)
 
-  pub uncounted : {X : Type 0} (good : X → Type 0) (result : Result X LeafError) → counted_key s r ≡ None → MatchResult result good (HasCause (AsksWith v s ds p r (lookups_of v.footer s (view r.query))) v.pieces)
-      → MatchResult result good (HasCause (AsksLeaf v s ds p r) v.pieces)
+  pub uncounted : {X : Type 0} (good : X → Type 0) (result : Result X LeafError) → counted_key s r ≡ None → MatchResult result good (LacksPart (AsksWith v s ds p r (lookups_of v.footer s (view r.query))) v.pieces)
+      → MatchResult result good (LacksPart (AsksLeaf v s ds p r) v.pieces)
   uncounted good result same h =
-      subst (λ (o : Option (List ℕ)). MatchResult result good (HasCause (AsksWith v s ds p r (option_map_or (λ k. Count k ∷ []) o (lookups_of v.footer s (view r.query)))) v.pieces)) (sym same) h
+      subst (λ (o : Option (List ℕ)). MatchResult result good (LacksPart (AsksWith v s ds p r (option_map_or (λ k. Count k ∷ []) o (lookups_of v.footer s (view r.query)))) v.pieces)) (sym same) h
 
-  pub block_memory : (key : List ℕ) (e : LeafError) → IsPartOf v s ds p → HaveAll (file_bytes p) v.pieces → HasCause (IsBlockFor v s ds p key) v.pieces e → IsMemory e
+  pub block_memory : (key : List ℕ) (e : LeafError) → IsPartOf v s ds p → HaveAll (file_bytes p) v.pieces → LacksPart (IsBlockFor v s ds p key) v.pieces e → IsMemory e
   block_memory key e part all cause = only_memory (IsBlockFor v s ds p key) (file_bytes p) v.pieces e (λ at len b. lookups_within v s ds p part (Count key ∷ []) at len (inl (inl b))) all cause
 
 -- a result by parts

@@ -14,7 +14,7 @@ use Rattle.split_bundle.specs.declared.part_view.PartView.{PartView}
 use Rattle.split_bundle.specs.Files.{Parts}
 use Rattle.doc_sets.specs.Asking.{AsksLookups}
 use Rattle.doc_sets.specs.declared.dictionary_lookup.Lookup.{Lookup}
-use Rattle.doc_sets.specs.Faults.{HasCause, IsMemory, fault_of}
+use Rattle.doc_sets.specs.Faults.{LacksPart, IsMemory, fault_of}
 use Rattle.doc_tallies.specs.Causes as tallies
 use Rattle.agg_nested.specs.Buckets.{NestedStands}
 use Rattle.doc_tallies.specs.Orders.{firsts}
@@ -26,7 +26,7 @@ use Rattle.leaf_search.specs.Numbers.{numbers_from, numbers_of}
 use Rattle.leaf_search.proofs.NumberLists.{picked_of}
 
 -- the cause of a fault of a reader is that of the fault that it is handed on as
-pub cause_of : (A B : ℕ → ℕ → Type 0) (pieces : List FilePiece) (fault : SplitError) → ((at len : ℕ) → A at len → B at len) → tallies.HasCause A pieces fault → HasCause B pieces (fault_of fault)
+pub cause_of : (A B : ℕ → ℕ → Type 0) (pieces : List FilePiece) (fault : SplitError) → ((at len : ℕ) → A at len → B at len) → tallies.LacksPart A pieces fault → LacksPart B pieces (fault_of fault)
 cause_of A B pieces (splits.Memory a) wider h = tt
 cause_of A B pieces splits.BadMagic wider h = absurd h
 cause_of A B pieces (splits.Truncated at) wider h = (h.0, wider at h.0 h.1, h.2)
@@ -34,9 +34,9 @@ cause_of A B pieces (splits.BadSection number) wider h = absurd h
 cause_of A B pieces (splits.BadVersion number) wider h = absurd h
 
 pub faulted : {X : Type 0} (good : X → Type 0) (A B : ℕ → ℕ → Type 0) (pieces : List FilePiece) (fault : SplitError) (r : Result X LeafError) → IsErrAnd r (λ e. e ≡ fault_of fault) → ((at len : ℕ) → A at len → B at len)
-    → tallies.HasCause A pieces fault → MatchResult r good (HasCause B pieces)
+    → tallies.LacksPart A pieces fault → MatchResult r good (LacksPart B pieces)
 faulted good A B pieces fault (Ok x) h wider cause = absurd h
-faulted good A B pieces fault (Err e) h wider cause = subst (HasCause B pieces) (sym h) (cause_of A B pieces fault wider cause)
+faulted good A B pieces fault (Err e) h wider cause = subst (LacksPart B pieces) (sym h) (cause_of A B pieces fault wider cause)
 
 -- what is asked for of look-ups is asked for of a request that needs them
 pub of_lookups : (v : PartView) (s : Schema) (ds : List Placed) (p : Parts) (r : LeafRequest) (ls : List Lookup) (at len : ℕ) → AsksLookups v s ds p ls at len → AsksWith v s ds p r ls at len

@@ -24,7 +24,7 @@ use Rattle.doc_sets.specs.declared.leaf_error.LeafError.{LeafError}
 use Rattle.doc_sets.specs.declared.leaf_error.LeafError.TheVariants as faults
 use Rattle.doc_sets.specs.declared.wanted.Wanted.{Wanted}
 use Rattle.doc_sets.specs.Asking.{AsksBlockOf, AsksBlocks, AsksListOf, AsksLists}
-use Rattle.doc_sets.specs.Faults.{HasCause, IsMemory}
+use Rattle.doc_sets.specs.Faults.{LacksPart, IsMemory}
 use Rattle.doc_sets.specs.Needed.{ArePlacesFor, IsListFor, postings_start, positions_start}
 use Rattle.doc_sets.specs.Walks.{AsksIf, AsksTerms, AsksWalkBlock, AsksWalkList, IsBlock, begun_in, takes}
 use Rattle.doc_sets.proofs.Causes.{cause_wider}
@@ -36,7 +36,7 @@ use Rattle.leaf_search.proofs.BlockParts.{same_walk}
 use Rattle.leaf_search.proofs.RangeLists.{At, both_added, none_added, parts_alike}
 
 -- want of memory is a cause whatever is asked for
-pub memory_is : (A : ℕ → ℕ → Type 0) (pieces : List FilePiece) (e : LeafError) → IsMemory e → HasCause A pieces e
+pub memory_is : (A : ℕ → ℕ → Type 0) (pieces : List FilePiece) (e : LeafError) → IsMemory e → LacksPart A pieces e
 memory_is A pieces (faults.Memory a) h = tt
 memory_is A pieces (faults.Missing at) h = absurd h
 memory_is A pieces (faults.Corrupt section) h = absurd h
@@ -174,7 +174,7 @@ module _ (v : PartView) (s : Schema) (ds : List Placed) (p : Parts) where
       (λ a n h. let within = same_walk v s ds p part prefix from until blocks h.0 h.1 in (h.0, within.0, within.1, h.2)) adds
 
   pub walk_lacks : (prefix : List ℕ) (start end number : ℕ) (e : LeafError) → AreBlocks v.footer.index prefix (λ first. is_below first prefix || starts_with nat_eq first prefix) start end → start ≤ number → number < end
-      → HasCause (IsBlock s ds p number) v.pieces e → HasCause (AsksWalkBlock v s ds p prefix) v.pieces e
+      → LacksPart (IsBlock s ds p number) v.pieces e → LacksPart (AsksWalkBlock v s ds p prefix) v.pieces e
   walk_lacks prefix start end number e blocks from until cause =
       cause_wider (IsBlock s ds p number) (AsksWalkBlock v s ds p prefix) v.pieces e (λ at len b. (number, record { start = start; end = end; blocks = blocks; from = from; until = until }, b)) cause
 
@@ -204,5 +204,5 @@ module _ (v : PartView) (s : Schema) (ds : List Placed) (p : Parts) where
   block_among (x ∷ xs) zero l lt e at len h = inl (subst (λ (k : Lookup). AsksBlockOf v s ds p k at len) e h)
   block_among (x ∷ xs) (suc i) l lt e at len h = inr (block_among xs i l (omega arith) e at len h)
 
-  pub lookup_lacks : (ls : List Lookup) (i : ℕ) (l : Lookup) (e : LeafError) → i < length ls → l ≡ get_or ls i l → HasCause (AsksBlockOf v s ds p l) v.pieces e → HasCause (AsksBlocks v s ds p ls) v.pieces e
+  pub lookup_lacks : (ls : List Lookup) (i : ℕ) (l : Lookup) (e : LeafError) → i < length ls → l ≡ get_or ls i l → LacksPart (AsksBlockOf v s ds p l) v.pieces e → LacksPart (AsksBlocks v s ds p ls) v.pieces e
   lookup_lacks ls i l e lt same cause = cause_wider (AsksBlockOf v s ds p l) (AsksBlocks v s ds p ls) v.pieces e (block_among ls i l lt same) cause

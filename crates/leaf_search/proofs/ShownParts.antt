@@ -17,7 +17,7 @@ use Rattle.split_bundle.specs.declared.pieces.FilePiece.{FilePiece}
 use Rattle.doc_sets.specs.declared.dictionary_lookup.Lookup.{Lookup}
 use Rattle.doc_sets.specs.declared.dictionary_lookup.Lookup.TheVariants.{Count}
 use Rattle.doc_sets.specs.declared.leaf_error.LeafError.{LeafError}
-use Rattle.doc_sets.specs.Faults.{HasCause}
+use Rattle.doc_sets.specs.Faults.{LacksPart}
 use Rattle.doc_sets.proofs.Causes.{cause_wider}
 use Rattle.doc_tallies.specs.declared.hit_order.HitOrder.{HitOrder}
 use Rattle.doc_tallies.specs.Firsts.{sorted_by}
@@ -162,8 +162,8 @@ lookups_all footer s r some = go (counted_key s r) refl
     go None e = ap (λ (x : Option (List ℕ)). option_map_or (λ key. Count key ∷ []) x (lookups_of footer s (view r.query))) e
     go (Some key) e = absurd (some (counts s r key e).wanted)
 
-pub cause_behind : {Z : Type 0} (A B : ℕ → ℕ → Type 0) (pieces : List FilePiece) (ns : List ℕ) (r : Result (Vec ℕ Z) LeafError) → ((at len : ℕ) → A at len → B at len) → MatchResult r (λ v. v.items ≡ ns) (HasCause A pieces)
-    → MatchResult r (λ v. v.items ≡ ns) (HasCause B pieces)
+pub cause_behind : {Z : Type 0} (A B : ℕ → ℕ → Type 0) (pieces : List FilePiece) (ns : List ℕ) (r : Result (Vec ℕ Z) LeafError) → ((at len : ℕ) → A at len → B at len) → MatchResult r (λ v. v.items ≡ ns) (LacksPart A pieces)
+    → MatchResult r (λ v. v.items ≡ ns) (LacksPart B pieces)
 cause_behind A B pieces ns (Ok v) wider h = h
 cause_behind A B pieces ns (Err e) wider h = cause_wider A B pieces e wider h
 

@@ -6,7 +6,7 @@ use Rattle.split_bundle.specs.declared.placed.Placed.{Placed}
 use Rattle.split_bundle.specs.Files.{Parts}
 use Rattle.split_bundle.specs.Lending.{IsPartOf}
 use Rattle.doc_sets.specs.declared.leaf_error.LeafError.{LeafError}
-use Rattle.doc_sets.specs.Faults.{HasCause, IsMemory}
+use Rattle.doc_sets.specs.Faults.{LacksPart, IsMemory}
 use Rattle.doc_tallies.specs.Causes.{AsksDocument, AsksDocuments, AsksHits}
 use Rattle.leaf_search.specs.Answers.{AsksLeaf, passes}
 use Rattle.leaf_search.specs.FileRanges.{AreRangesOf, HasPart, SomeRange}
@@ -45,7 +45,7 @@ module _ (v : PartView) (s : Schema) (ds : List Placed) (p : Parts) (part : IsPa
 
   -- an answer whose fault is one of a part that is asked for is one, or want of memory, where the ranges of all rounds are held
   pub paged_result : {X : Type 0} (good : X → Type 0) (result : Result X LeafError) → AreHeld v.pieces blocks → AreHeld v.pieces listed → AreHeld v.pieces starts → AreHeld v.pieces shown
-      → MatchResult result good (HasCause (AsksLeaf v s ds p r) v.pieces) → MatchResult result good IsMemory
+      → MatchResult result good (LacksPart (AsksLeaf v s ds p r) v.pieces) → MatchResult result good IsMemory
   paged_result good (Ok x) in_blocks in_listed in_starts in_shown h = h
   paged_result good (Err e) in_blocks in_listed in_starts in_shown h =
       held_memory (AsksLeaf v s ds p r) v.pieces e

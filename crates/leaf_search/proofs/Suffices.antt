@@ -15,7 +15,7 @@ use Rattle.split_bundle.specs.Pieces.{held_in, or_else, part_in}
 use Rattle.split_bundle.proofs.DocStands.{each_at, length-each, length-starts}
 use Rattle.doc_sets.specs.declared.leaf_error.LeafError.{LeafError}
 use Rattle.doc_sets.specs.declared.leaf_error.LeafError.TheVariants as faults
-use Rattle.doc_sets.specs.Faults.{HasCause, IsMemory}
+use Rattle.doc_sets.specs.Faults.{LacksPart, IsMemory}
 use Rattle.doc_tallies.specs.Causes.{AsksDocument, AsksHits}
 use Rattle.leaf_search.specs.Answers.{AsksLeaf, passes}
 use Rattle.leaf_search.specs.FileRanges.{AreRangesOf, HasPart, SomeRange}
@@ -82,7 +82,7 @@ range_there pieces (r ∷ rs) at n held (inl h) = held_there pieces r.start r.le
 range_there pieces (r ∷ rs) at n held (inr h) = range_there pieces rs at n held.1 h
 
 -- where each part that is asked for is held, want of memory is the one cause
-pub held_memory : (A : ℕ → ℕ → Type 0) (pieces : List FilePiece) (e : LeafError) → ((at len : ℕ) → A at len → held_in pieces at len ≢ none) → HasCause A pieces e → IsMemory e
+pub held_memory : (A : ℕ → ℕ → Type 0) (pieces : List FilePiece) (e : LeafError) → ((at len : ℕ) → A at len → held_in pieces at len ≢ none) → LacksPart A pieces e → IsMemory e
 held_memory A pieces (faults.Memory a) there cause = tt
 held_memory A pieces (faults.Missing at) there cause = absurd (there at cause.0 cause.1 cause.2)
 held_memory A pieces (faults.Corrupt section) there cause = absurd cause
@@ -130,13 +130,13 @@ module _ (v : PartView) (s : Schema) (ds : List Placed) (p : Parts) (part : IsPa
           inr (wider_part lists 4 v.footer.layout.sections.documents at len within.0 within.1 (l.cover 4 v.footer.layout.sections.documents (inr (inr (wanted, refl, refl)))))
 
   pub needed_memory : (r : LeafRequest) (blocks lists : List FileRange) (e : LeafError) → AreRangesOf (NeedsBlocks v s ds p r) blocks → AreRangesOf (NeedsLists v s ds p r) lists → AreHeld v.pieces blocks → AreHeld v.pieces lists
-      → HasCause (AsksLeaf v s ds p r) v.pieces e → IsMemory e
+      → LacksPart (AsksLeaf v s ds p r) v.pieces e → IsMemory e
   needed_memory r blocks lists e b l held_blocks held_lists cause =
       held_memory (AsksLeaf v s ds p r) v.pieces e
       (λ at len asked. elim (part_needed r blocks lists b l at len asked) [ inl x ↦ range_there v.pieces blocks at len held_blocks x | inr y ↦ range_there v.pieces lists at len held_lists y ]) cause
 
   -- an answer whose fault is one of a part that is asked for is one, or want of memory, where the ranges that are needed are held
   pub needed_result : {X : Type 0} (good : X → Type 0) (result : Result X LeafError) (r : LeafRequest) (blocks lists : List FileRange) → AreRangesOf (NeedsBlocks v s ds p r) blocks → AreRangesOf (NeedsLists v s ds p r) lists
-      → AreHeld v.pieces blocks → AreHeld v.pieces lists → MatchResult result good (HasCause (AsksLeaf v s ds p r) v.pieces) → MatchResult result good IsMemory
+      → AreHeld v.pieces blocks → AreHeld v.pieces lists → MatchResult result good (LacksPart (AsksLeaf v s ds p r) v.pieces) → MatchResult result good IsMemory
   needed_result good (Ok x) r blocks lists b l held_blocks held_lists h = h
   needed_result good (Err e) r blocks lists b l held_blocks held_lists h = needed_memory r blocks lists e b l held_blocks held_lists h

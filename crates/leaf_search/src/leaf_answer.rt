@@ -7,7 +7,7 @@ ghost use Rattle.split_bundle.specs.declared.placed.Placed.{Placed};
 ghost use Rattle.split_bundle.specs.Files.{Parts, file_bytes};
 ghost use Rattle.split_bundle.specs.Lending.{IsPartOf};
 ghost use Rattle.split_bundle.specs.Wholes.{HaveAll};
-ghost use Rattle.doc_sets.specs.Faults.{HasCause, IsMemory};
+ghost use Rattle.doc_sets.specs.Faults.{LacksPart, IsMemory};
 ghost use Rattle.doc_sets.specs.Reads.{AreRead, ReadsAll};
 ghost use Rattle.doc_sets.specs.Sets.{IsSetOf};
 ghost use Rattle.query_ast.specs.Meaning.{meaning};
@@ -43,7 +43,7 @@ pub fn leaf(
     requires intervals { HaveSteps request.now.aggs }
     // Of a split of documents: their answer, or want of memory, or that no piece has a part which the request asks for.
     ensures only { (documents : List Placed) (p : Parts) → IsPartOf view.now schema.now documents p → IsAsked schema.now request.now
-        → MatchResult result (IsAnswerOf schema.now request.now documents) (HasCause (AsksLeaf view.now schema.now documents p request.now) view.now.pieces) }
+        → MatchResult result (IsAnswerOf schema.now request.now documents) (LacksPart (AsksLeaf view.now schema.now documents p request.now) view.now.pieces) }
     // Where the pieces have every part of the file: their answer, or want of memory.
     ensures there { (documents : List Placed) (p : Parts) → IsPartOf view.now schema.now documents p → HaveAll (file_bytes p) view.now.pieces → IsAsked schema.now request.now
         → MatchResult result (IsAnswerOf schema.now request.now documents) IsMemory }
@@ -81,7 +81,7 @@ fn evaluated(
     requires intervals { HaveSteps request.now.aggs }
     ensures only { (documents : List Placed) (p : Parts) → IsPartOf view.now schema.now documents p → IsAsked schema.now request.now
         → MatchResult result (IsAnswerOf schema.now request.now documents)
-        (HasCause (AsksWith view.now schema.now documents p request.now (lookups_of view.now.footer schema.now (query_view request.now.query))) view.now.pieces) }
+        (LacksPart (AsksWith view.now schema.now documents p request.now (lookups_of view.now.footer schema.now (query_view request.now.query))) view.now.pieces) }
     ensures there { (documents : List Placed) (p : Parts) → IsPartOf view.now schema.now documents p → HaveAll (file_bytes p) view.now.pieces → IsAsked schema.now request.now
         → MatchResult result (IsAnswerOf schema.now request.now documents) IsMemory }
     ensures partial { IfOk result (λ a. IsNestedPartial request.now.aggs a.partial) }
@@ -109,7 +109,7 @@ fn query_counted(
     requires counts { counts.only_counts request.now ≡ true }
     ensures only { (documents : List Placed) (p : Parts) → IsPartOf view.now schema.now documents p → IsAsked schema.now request.now
         → MatchResult result (IsAnswerOf schema.now request.now documents)
-        (HasCause (AsksWith view.now schema.now documents p request.now (lookups_of view.now.footer schema.now (query_view request.now.query))) view.now.pieces) }
+        (LacksPart (AsksWith view.now schema.now documents p request.now (lookups_of view.now.footer schema.now (query_view request.now.query))) view.now.pieces) }
     ensures there { (documents : List Placed) (p : Parts) → IsPartOf view.now schema.now documents p → HaveAll (file_bytes p) view.now.pieces → IsAsked schema.now request.now
         → MatchResult result (IsAnswerOf schema.now request.now documents) IsMemory }
     ensures partial { IfOk result (λ a. IsNestedPartial request.now.aggs a.partial) }
@@ -132,7 +132,7 @@ fn listed(
     requires size { bits.now.size ≡ view.now.footer.layout.docs }
     ensures only { (documents : List Placed) (p : Parts) → IsPartOf view.now schema.now documents p → IsAsked schema.now request.now
         → IsSetOf (λ d. meaning schema.now d (query_view request.now.query)) documents bits.now → MatchResult result (IsAnswerOf schema.now request.now documents)
-        (HasCause (AsksWith view.now schema.now documents p request.now (lookups_of view.now.footer schema.now (query_view request.now.query))) view.now.pieces) }
+        (LacksPart (AsksWith view.now schema.now documents p request.now (lookups_of view.now.footer schema.now (query_view request.now.query))) view.now.pieces) }
     ensures there { (documents : List Placed) (p : Parts) → IsPartOf view.now schema.now documents p → HaveAll (file_bytes p) view.now.pieces → IsAsked schema.now request.now
         → IsSetOf (λ d. meaning schema.now d (query_view request.now.query)) documents bits.now → MatchResult result (IsAnswerOf schema.now request.now documents) IsMemory }
     ensures partial { IfOk result (λ a. IsNestedPartial request.now.aggs a.partial) }

@@ -11,7 +11,7 @@ ghost use Rattle.split_bundle.specs.Files.{Parts};
 ghost use Rattle.split_bundle.specs.Lending.{IsPartOf};
 ghost use Rattle.split_bundle.specs.Lists.{keeps_places, terms_of};
 ghost use Rattle.doc_sets.specs.Asking.{AsksBlockOf, AsksBlocks, AsksListOf, AsksLists};
-ghost use Rattle.doc_sets.specs.Faults.{HasCause, IsMemory};
+ghost use Rattle.doc_sets.specs.Faults.{LacksPart, IsMemory};
 ghost use Rattle.doc_sets.specs.Needed.{ArePlacesFor, IsBlockFor, IsColumnFor, IsListFor, IsSearched};
 ghost use Rattle.doc_sets.specs.Reads.{ReadsBlock, terms_read};
 ghost use Rattle.doc_sets.specs.Walks.{AsksIf, AsksTerms, AsksWalkBlock, AsksWalkList, IsBlock, begun_in};
@@ -76,7 +76,7 @@ fn name_places(part: &PartView, ranges: &mut Ranges, info: &TermInfo) -> Result<
 // Names the list of a key.
 fn name_key_list(part: &PartView, ranges: &mut Ranges, key: &[u8]) -> Result<(), LeafError>
     ensures only { (s : Schema) (documents : List Placed) (p : Parts) → IsSearched part.now s documents p
-        → MatchResult result (λ u. AddsParts (IsListFor part.now s documents p key.now) ranges.old ranges.new) (HasCause (IsBlockFor part.now s documents p key.now) part.now.pieces) }
+        → MatchResult result (λ u. AddsParts (IsListFor part.now s documents p key.now) ranges.old ranges.new) (LacksPart (IsBlockFor part.now s documents p key.now) part.now.pieces) }
     ensures read { IfOk result (λ u. IsFound part.now (Documents key.now)) }
 {
     match term_at(part.footer().index(), part, key)? {
@@ -112,7 +112,7 @@ fn name_key_places(
 ) -> Result<(), LeafError>
     ensures only { (documents : List Placed) (p : Parts) → IsSearched part.now schema.now documents p
         → MatchResult result (λ u. AddsParts (λ at len. IsListFor part.now schema.now documents p key.now at len ⊎ ArePlacesFor part.now schema.now documents p key.now at len) ranges.old ranges.new)
-        (HasCause (IsBlockFor part.now schema.now documents p key.now) part.now.pieces) }
+        (LacksPart (IsBlockFor part.now schema.now documents p key.now) part.now.pieces) }
     ensures read { IfOk result (λ u. IsFound part.now (Places key.now)) }
 {
     match term_at(part.footer().index(), part, key)? {
@@ -179,7 +179,7 @@ fn name_block_lists(
     requires { number < length part.now.footer.index }
     ensures only { (s : Schema) (documents : List Placed) (p : Parts) → IsSearched part.now s documents p
         → MatchResult result (λ u. AddsParts (AsksTerms part.now s documents p wanted (begun_in prefix.now (terms_of s documents p.keys) number)) ranges.old ranges.new)
-        (HasCause (IsBlock s documents p number) part.now.pieces) }
+        (LacksPart (IsBlock s documents p number) part.now.pieces) }
     ensures read { IfOk result (λ u. ReadsBlock part.now (λ t. Ok []) prefix.now number (Ok [])) }
 {
     if number > u32::MAX as usize {
@@ -204,7 +204,7 @@ fn name_walk_lists(
     wanted: Wanted,
 ) -> Result<(), LeafError>
     ensures only { (s : Schema) (documents : List Placed) (p : Parts) → IsSearched part.now s documents p
-        → MatchResult result (λ u. AddsParts (AsksWalkList part.now s documents p prefix.now wanted) ranges.old ranges.new) (HasCause (AsksWalkBlock part.now s documents p prefix.now) part.now.pieces) }
+        → MatchResult result (λ u. AddsParts (AsksWalkList part.now s documents p prefix.now wanted) ranges.old ranges.new) (LacksPart (AsksWalkBlock part.now s documents p prefix.now) part.now.pieces) }
     ensures read { IfOk result (λ u. IsWalkFound part.now prefix.now) }
 {
     let blocks = part.footer().index().blocks_with(prefix);
@@ -248,7 +248,7 @@ fn name_lookup_lists(
 ) -> Result<(), LeafError>
     requires { length schema.now.fields ≤ 256 }
     ensures only { (documents : List Placed) (p : Parts) → IsSearched part.now schema.now documents p
-        → MatchResult result (λ u. AddsParts (AsksListOf part.now schema.now documents p lookup.now) ranges.old ranges.new) (HasCause (AsksBlockOf part.now schema.now documents p lookup.now) part.now.pieces) }
+        → MatchResult result (λ u. AddsParts (AsksListOf part.now schema.now documents p lookup.now) ranges.old ranges.new) (LacksPart (AsksBlockOf part.now schema.now documents p lookup.now) part.now.pieces) }
     ensures read { IfOk result (λ u. IsFound part.now lookup.now) }
 {
     match lookup {
@@ -273,7 +273,7 @@ pub(crate) fn name_lists(
 ) -> Result<(), LeafError>
     requires { length schema.now.fields ≤ 256 }
     ensures only { (documents : List Placed) (p : Parts) → IsSearched part.now schema.now documents p
-        → MatchResult result (λ u. AddsParts (AsksLists part.now schema.now documents p lookups.now) ranges.old ranges.new) (HasCause (AsksBlocks part.now schema.now documents p lookups.now) part.now.pieces) }
+        → MatchResult result (λ u. AddsParts (AsksLists part.now schema.now documents p lookups.now) ranges.old ranges.new) (LacksPart (AsksBlocks part.now schema.now documents p lookups.now) part.now.pieces) }
     ensures read { IfOk result (λ u. AreFound part.now lookups.now) }
 {
     for lookup in lookups {

@@ -5,7 +5,7 @@ ghost use Rattle.split_bundle.specs.declared.part_view.PartView.{PartView};
 ghost use Rattle.split_bundle.specs.declared.placed.Placed.{Placed};
 ghost use Rattle.split_bundle.specs.Files.{Parts};
 ghost use Rattle.split_bundle.specs.Lending.{IsPartOf};
-ghost use Rattle.doc_sets.specs.Faults.{HasCause};
+ghost use Rattle.doc_sets.specs.Faults.{LacksPart};
 ghost use Rattle.leaf_search.specs.Answers.{IsAsked};
 ghost use Rattle.leaf_search.specs.FileRanges.{AddsParts, AreApart, AreRangesOf};
 ghost use Rattle.leaf_search.specs.Needs.{AreFound, NeedsBlocks, NeedsDocuments, NeedsLists};
@@ -69,7 +69,7 @@ pub fn lists_and_columns(
     requires { length schema.now.fields ≤ 256 }
     // Of a split of documents: the ranges of exactly these parts, or want of memory, or that no piece has a block that is asked for.
     ensures only { (documents : List Placed) (p : Parts) → IsPartOf view.now schema.now documents p → IsAsked schema.now request.now
-        → MatchResult result (AreRangesOf (NeedsListed view.now schema.now documents p request.now)) (HasCause (NeedsBlocks view.now schema.now documents p request.now) view.now.pieces) }
+        → MatchResult result (AreRangesOf (NeedsListed view.now schema.now documents p request.now)) (LacksPart (NeedsBlocks view.now schema.now documents p request.now) view.now.pieces) }
     // Over any bytes.
     ensures apart { IfOk result AreApart }
     // The dictionary is read at each key whose list is named.
@@ -93,7 +93,7 @@ pub fn lists_needed(
     requires { length schema.now.fields ≤ 256 }
     // Of a split of documents: the ranges of exactly these parts, or want of memory, or that no piece has a block that is asked for.
     ensures only { (documents : List Placed) (p : Parts) → IsPartOf view.now schema.now documents p → IsAsked schema.now request.now
-        → MatchResult result (AreRangesOf (NeedsLists view.now schema.now documents p request.now)) (HasCause (NeedsBlocks view.now schema.now documents p request.now) view.now.pieces) }
+        → MatchResult result (AreRangesOf (NeedsLists view.now schema.now documents p request.now)) (LacksPart (NeedsBlocks view.now schema.now documents p request.now) view.now.pieces) }
     // Over any bytes.
     ensures apart { IfOk result AreApart }
     // The dictionary is read at each key whose list is named.

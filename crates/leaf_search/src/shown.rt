@@ -10,7 +10,7 @@ ghost use Rattle.split_bundle.specs.DocLending.{starts_place};
 ghost use Rattle.split_bundle.specs.Files.{Parts};
 ghost use Rattle.split_bundle.specs.Lending.{IsPartOf};
 ghost use Rattle.doc_sets.specs.Asking.{AsksLookups};
-ghost use Rattle.doc_sets.specs.Faults.{HasCause};
+ghost use Rattle.doc_sets.specs.Faults.{LacksPart};
 ghost use Rattle.leaf_search.specs.Answers.{AsksTimes, IsAsked, passes};
 ghost use Rattle.leaf_search.specs.Asks.{lookups_of};
 ghost use Rattle.leaf_search.specs.FileRanges.{AddsParts, AreApart, AreRangesOf};
@@ -53,7 +53,7 @@ pub(crate) fn found_numbers(
     ensures below { IfOk result (λ ns. All (λ n. n < view.now.footer.layout.docs) ns.items) }
     ensures only { (documents : List Placed) (p : Parts) → IsPartOf view.now schema.now documents p → IsAsked schema.now request.now
         → MatchResult result (λ ns. ns.items ≡ numbers_of (passes schema.now request.now) documents)
-        (HasCause (λ at len. AsksLookups view.now schema.now documents p (lookups_of view.now.footer schema.now (query_view request.now.query)) at len ⊎ AsksTimes view.now p schema.now request.now.times at len) view.now.pieces) }
+        (LacksPart (λ at len. AsksLookups view.now schema.now documents p (lookups_of view.now.footer schema.now (query_view request.now.query)) at len ⊎ AsksTimes view.now p schema.now request.now.times at len) view.now.pieces) }
 {
     let index = view.footer().index();
     let bits = matching(alloc, index, view, schema, &request.query)?;
@@ -73,7 +73,7 @@ pub fn shown_documents(
     // Of a split of documents: exactly these numbers, or want of memory, or that no piece has a part which tells them.
     ensures only { (documents : List Placed) (p : Parts) → IsPartOf view.now schema.now documents p → IsAsked schema.now request.now
         → MatchResult result (λ o. MatchOption o (are_few schema.now request.now documents ≡ false) (λ ns. AreFew schema.now request.now documents ns.items))
-        (HasCause (TellsShown view.now schema.now documents p request.now) view.now.pieces) }
+        (LacksPart (TellsShown view.now schema.now documents p request.now) view.now.pieces) }
 {
     if request.wanted == 0 {
         return Ok(Some(Vec::new(alloc)));
@@ -132,7 +132,7 @@ pub fn starts_needed(
 // Names the bytes of a document.
 fn name_bytes(view: &PartView, ranges: &mut Ranges, number: u32) -> Result<(), LeafError>
     ensures { (s : Schema) (documents : List Placed) (p : Parts) (d : Placed) → IsPartOf view.now s documents p → slice_get documents number ≡ Some d
-        → MatchResult result (λ u. AddsParts (BytesOf p documents number) ranges.old ranges.new) (HasCause (StartOf number) view.now.pieces) }
+        → MatchResult result (λ u. AddsParts (BytesOf p documents number) ranges.old ranges.new) (LacksPart (StartOf number) view.now.pieces) }
 {
     let (start, len) = view.doc_range(number)?;
     Ok(name_part(ranges, start, len)?)
@@ -141,7 +141,7 @@ fn name_bytes(view: &PartView, ranges: &mut Ranges, number: u32) -> Result<(), L
 // Names the bytes of documents.
 fn name_shown(view: &PartView, ranges: &mut Ranges, numbers: &[u32]) -> Result<(), LeafError>
     ensures { (s : Schema) (documents : List Placed) (p : Parts) → IsPartOf view.now s documents p → All (λ n. n < length documents) numbers.now
-        → MatchResult result (λ u. AddsParts (OfEach (BytesOf p documents) numbers.now) ranges.old ranges.new) (HasCause (OfEach StartOf numbers.now) view.now.pieces) }
+        → MatchResult result (λ u. AddsParts (OfEach (BytesOf p documents) numbers.now) ranges.old ranges.new) (LacksPart (OfEach StartOf numbers.now) view.now.pieces) }
 {
     for number in numbers {
         name_bytes(view, ranges, *number)?;
@@ -159,7 +159,7 @@ pub fn documents_needed(
     // Of a split of documents: the ranges of exactly these parts, or want of memory, or that no piece has the start of such a document.
     ensures only { (s : Schema) (documents : List Placed) (p : Parts) (r : LeafRequest) → IsPartOf view.now s documents p
         → MatchOption few.now (are_few s r documents ≡ false) (λ ns. AreFew s r documents ns.items)
-        → MatchResult result (AreRangesOf (NeedsShown s documents p r)) (HasCause (NeedsStarts view.now s documents r) view.now.pieces) }
+        → MatchResult result (AreRangesOf (NeedsShown s documents p r)) (LacksPart (NeedsStarts view.now s documents r) view.now.pieces) }
     // Over any bytes.
     ensures apart { IfOk result AreApart }
 {

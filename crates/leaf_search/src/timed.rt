@@ -8,7 +8,7 @@ ghost use Rattle.split_bundle.specs.declared.placed.Placed.{Placed};
 ghost use Rattle.split_bundle.specs.Files.{Parts, file_bytes};
 ghost use Rattle.split_bundle.specs.Lending.{IsPartOf};
 ghost use Rattle.split_bundle.specs.Wholes.{HaveAll};
-ghost use Rattle.doc_sets.specs.Faults.{HasCause, IsMemory};
+ghost use Rattle.doc_sets.specs.Faults.{LacksPart, IsMemory};
 ghost use Rattle.leaf_search.specs.Answers.{AsksTimes};
 ghost use Rattle.leaf_search.specs.Numbers.{numbers_of};
 
@@ -47,7 +47,7 @@ pub(crate) fn timed_numbers(
     requires { All (λ n. n < view.now.footer.layout.docs) matched.items }
     ensures below { IfOk result (λ ns. All (λ n. n < view.now.footer.layout.docs) ns.items) }
     ensures only { (documents : List Placed) (p : Parts) (test : List DocField → Bool) → IsPartOf view.now schema.now documents p → matched.items ≡ numbers_of test documents
-        → MatchResult result (λ ns. ns.items ≡ numbers_of (λ d. test d && within_times schema.now times d) documents) (HasCause (AsksTimes view.now p schema.now times) view.now.pieces) }
+        → MatchResult result (λ ns. ns.items ≡ numbers_of (λ d. test d && within_times schema.now times d) documents) (LacksPart (AsksTimes view.now p schema.now times) view.now.pieces) }
     // Where the pieces have every part of the file.
     ensures there { (documents : List Placed) (p : Parts) (test : List DocField → Bool) → IsPartOf view.now schema.now documents p → HaveAll (file_bytes p) view.now.pieces → matched.items ≡ numbers_of test documents
         → MatchResult result (λ ns. ns.items ≡ numbers_of (λ d. test d && within_times schema.now times d) documents) IsMemory }

@@ -9,7 +9,7 @@ ghost use Rattle.agg_nested.specs.Checking.{HaveSteps};
 ghost use Rattle.split_bundle.specs.declared.placed.Placed.{Placed};
 ghost use Rattle.split_bundle.specs.Files.{Parts};
 ghost use Rattle.split_bundle.specs.Lists.{posting_list};
-ghost use Rattle.doc_sets.specs.Faults.{HasCause};
+ghost use Rattle.doc_sets.specs.Faults.{LacksPart};
 ghost use Rattle.doc_sets.specs.Needed.{IsBlockFor, IsSearched};
 ghost use Rattle.doc_sets.specs.Reads.{ReadsAll};
 ghost use Rattle.doc_sets.specs.Texts as texts;
@@ -113,7 +113,7 @@ pub(crate) fn answer_of_many(
 // How many documents have a key, by the dictionary alone.
 pub(crate) fn key_count(view: &PartView, key: &[u8]) -> Result<u32, LeafError>
     ensures only { (s : Schema) (documents : List Placed) (p : Parts) → IsSearched view.now s documents p
-        → MatchResult result (λ n. n ≡ length (posting_list s documents key.now)) (HasCause (IsBlockFor view.now s documents p key.now) view.now.pieces) }
+        → MatchResult result (λ n. n ≡ length (posting_list s documents key.now)) (LacksPart (IsBlockFor view.now s documents p key.now) view.now.pieces) }
     ensures reads { ReadsAll view.now (Count key.now ∷ []) result }
 {
     match term_at(view.footer().index(), view, key)? {
@@ -132,7 +132,7 @@ pub(crate) fn counted(
     requires { HaveSteps request.now.aggs }
     ensures only { (s : Schema) (documents : List Placed) (p : Parts) → IsSearched view.now s documents p
         → MatchResult result (λ a. (a.count ≡ length (posting_list s documents key.now)) × (a.hits ≡ []) × (documents_counted a.partial ≡ a.count))
-        (HasCause (IsBlockFor view.now s documents p key.now) view.now.pieces) }
+        (LacksPart (IsBlockFor view.now s documents p key.now) view.now.pieces) }
     ensures partial { IfOk result (λ a. IsNestedPartial request.now.aggs a.partial) }
     ensures many { IfOk result (λ a. documents_counted a.partial ≡ a.count) }
     ensures reads { ReadsAll view.now (Count key.now ∷ []) result }

@@ -8,8 +8,8 @@ use Rattle.meta_journal.specs.declared.entry.Entry.{Entry}
 use Rattle.meta_journal.specs.declared.entry.Act.TheVariants as acts
 use Rattle.meta_journal.specs.declared.journal_error.JournalError.{JournalError}
 use Rattle.meta_journal.specs.declared.journal_error.JournalError.TheVariants.{Memory, Adopted, StoreFault, Foreign, Corrupt, Full, Missing}
-use Rattle.meta_journal.specs.declared.place.Place.{Place}
-use Rattle.meta_journal.specs.declared.place.Place.TheVariants.{Sure, Unsure, Given}
+use Rattle.meta_journal.specs.declared.place.JournalPlace.{JournalPlace}
+use Rattle.meta_journal.specs.declared.place.JournalPlace.TheVariants.{Sure, Unsure, Given}
 use Rattle.meta_journal.specs.Spelling.{spelling, Spells, CanSpell}
 use Rattle.meta_journal.specs.Places.{meta_key, numbered, HasEntry}
 use Rattle.meta_journal.specs.Reading.{entry_of}
@@ -19,7 +19,7 @@ use Rattle.meta_journal.specs.declared.entry_error.EntryError.{EntryError}
 -- and whether a place was settled since `settle` was last called
 pub record Numbered : Type 0 where
   pub next : ℕ
-  pub place : Place
+  pub place : JournalPlace
   pub settled : Bool
 
 -- the greatest number of entries
@@ -169,7 +169,7 @@ Settles n moment (Err x) old new = SettlesAt n moment (Err x) old new
 
 -- ---- the place behind each answer
 
-abbrev pub place_refused : Place → JournalError → Place
+abbrev pub place_refused : JournalPlace → JournalError → JournalPlace
 place_refused p (StoreFault before after) = Unsure
 place_refused p (Adopted e) = Given
 place_refused p (Missing key) = p
@@ -178,15 +178,15 @@ place_refused p (Foreign key) = p
 place_refused p (Memory a) = p
 place_refused p Full = p
 
-abbrev pub place_read : Place → Result Entry JournalError → Place
+abbrev pub place_read : JournalPlace → Result Entry JournalError → JournalPlace
 place_read p (Ok e) = Given
 place_read p (Err e) = place_refused p e
 
-abbrev pub place_appended : Result ℕ JournalError → Place
+abbrev pub place_appended : Result ℕ JournalError → JournalPlace
 place_appended (Ok n) = Sure
 place_appended (Err e) = place_refused Sure e
 
-abbrev pub place_settled : Place → Result (Option Entry) JournalError → Place
+abbrev pub place_settled : JournalPlace → Result (Option Entry) JournalError → JournalPlace
 place_settled p (Ok None) = Sure
 place_settled p (Ok (Some e)) = Given
 place_settled p (Err e) = place_refused p e

@@ -8,7 +8,7 @@ use Rattle.object_store.specs.Store.{State, HasLanded, listed}
 use Rattle.meta_journal.specs.declared.entry.Entry.{Entry}
 use Rattle.meta_journal.specs.declared.journal_error.JournalError.{JournalError}
 use Rattle.meta_journal.specs.declared.journal_error.JournalError.TheVariants.{Memory, Adopted, StoreFault, Foreign, Corrupt, Full, Missing}
-use Rattle.meta_journal.specs.declared.place.Place.TheVariants.{Sure}
+use Rattle.meta_journal.specs.declared.place.JournalPlace.TheVariants.{Sure}
 use Rattle.meta_journal.specs.declared.loading.Page.{Page}
 use Rattle.meta_journal.specs.declared.loading.Other.{Other}
 use Rattle.meta_journal.specs.Places.{meta_key, meta_prefix, numbered, Stand, IsJournal, BeginsWith}

@@ -5,14 +5,14 @@ ghost use Rattle.object_store.specs.Store.{WhereTold};
 ghost use Rattle.meta_journal.specs.Spelling.{CanSpell};
 ghost use Rattle.meta_journal.specs.Journal.{max_entries, FaultIs, IsOfRead, Appends, Settles, IsTaken, place_appended, place_settled, next_appended};
 ghost use Rattle.meta_journal.specs.Loading.{Loads, IsOfLoad, loaded};
-ghost use Rattle.meta_journal.specs.declared.place.Place.TheVariants.{Sure, Given};
+ghost use Rattle.meta_journal.specs.declared.place.JournalPlace.TheVariants.{Sure, Given};
 ghost use Rattle.meta_journal.specs.declared.journal_error.JournalError.TheVariants.{Full};
 
 use crate::keys::MAX_ENTRIES;
 use crate::loading::load_entries;
 use crate::place::{place_appended, place_read};
 use crate::trying::{append_at, settle_at};
-use crate::{Entries, Entry, JournalError, Place};
+use crate::{Entries, Entry, JournalError, JournalPlace};
 use object_store::ObjectStore;
 use std::alloc::Global;
 use std::marker::Model;
@@ -21,14 +21,14 @@ use std::marker::Model;
 #[derive(Drop)]
 pub struct Journal {
     next: u64,
-    place: Place,
+    place: JournalPlace,
     settled: bool,
 }
 
 impl Model for Journal {
     ghost use Rattle.std.specs.Prelude.{◌≢◌, ◌<◌};
     ghost use Rattle.meta_journal.specs.Journal.{Numbered, max_entries};
-    ghost use Rattle.meta_journal.specs.declared.place.Place.TheVariants.{Sure};
+    ghost use Rattle.meta_journal.specs.declared.place.JournalPlace.TheVariants.{Sure};
 
     ghost Value = { Numbered };
 
@@ -46,10 +46,10 @@ impl Journal {
     }
 
     /// What is known of the next number.
-    pub fn place(&self) -> Place
+    pub fn place(&self) -> JournalPlace
         ensures value { result ≡ self.now.place }
         // Only a number below the limit is in doubt.
-        ensures limit { self.now.place ≢ Place.Sure → self.now.next < max_entries }
+        ensures limit { self.now.place ≢ JournalPlace.Sure → self.now.next < max_entries }
     {
         self.place
     }
@@ -61,7 +61,7 @@ impl Journal {
         store: &mut S,
         entry: &Entry,
     ) -> Result<u64, JournalError>
-        requires sure { self.old.place ≡ Place.Sure }
+        requires sure { self.old.place ≡ JournalPlace.Sure }
         requires can { CanSpell entry.now }
 
         // What was tried and what landed, and what stands at the number, by the answer.
@@ -107,8 +107,8 @@ impl Journal {
         ensures answer { WhereTold (S.told store.old) (S.told store.new) (Settles self.old.next moment result) }
 
         // Where nothing is unsure the store is not called.
-        ensures sure { self.old.place ≡ Place.Sure → (result ≡ Ok None) × (S.told store.new ≡ S.told store.old) × (S.fault_count store.new ≡ S.fault_count store.old) }
-        ensures asked { result ≡ Ok None → self.old.place ≡ Place.Sure }
+        ensures sure { self.old.place ≡ JournalPlace.Sure → (result ≡ Ok None) × (S.told store.new ≡ S.told store.old) × (S.fault_count store.new ≡ S.fault_count store.old) }
+        ensures asked { result ≡ Ok None → self.old.place ≡ JournalPlace.Sure }
 
         // A fault has both counts, and comes only where the count rose.
         ensures faults { IfErr result (FaultIs (S.fault_count store.old) (S.fault_count store.new)) }
@@ -120,7 +120,7 @@ impl Journal {
         ensures settled { self.new.settled ≡ false }
     {
         self.settled = false;
-        if self.place == Place::Sure {
+        if self.place == JournalPlace::Sure {
             return Ok(None);
         }
         let before = store.faults();
@@ -134,13 +134,13 @@ impl Journal {
 
     /// Moves past the entry that was given; the caller has applied it. It takes no memory.
     pub fn step_over(&mut self)
-        requires { self.old.place ≡ Place.Given }
+        requires { self.old.place ≡ JournalPlace.Given }
         ensures next { self.new.next ≡ self.old.next + 1 }
-        ensures place { self.new.place ≡ Place.Sure }
+        ensures place { self.new.place ≡ JournalPlace.Sure }
         ensures settled { self.new.settled ≡ true }
     {
         self.next += 1;
-        self.place = Place::Sure;
+        self.place = JournalPlace::Sure;
         self.settled = true;
     }
 }
@@ -165,7 +165,7 @@ impl Journal {
         let entries = load_entries(alloc, store, before)?;
         let journal = Journal {
             next: entries.len() as u64,
-            place: Place::Sure,
+            place: JournalPlace::Sure,
             settled: false,
         };
         Ok((journal, entries))

@@ -22,6 +22,6 @@ pub use entry_error::EntryError;
 pub use journal::Journal;
 pub use journal_error::JournalError;
 pub use keys::{MAX_ENTRIES, meta_key, split_key, split_number, split_prefix};
-pub use place::Place;
+pub use place::JournalPlace;
 pub use reading::decode_entry;
 pub use writing::encode_entry;

@@ -7,7 +7,7 @@ use crate::{Entry, JournalError};
 
 /// What is known of the number behind the entries that were taken in.
 #[derive(Clone, Copy)]
-pub enum Place {
+pub enum JournalPlace {
     /// Nothing was tried there.
     Sure,
     /// A create there failed and may still take effect, or what stands there was not read.
@@ -16,12 +16,12 @@ pub enum Place {
     Given,
 }
 
-fn place_refused(place: Place, refused: &JournalError) -> Place
+fn place_refused(place: JournalPlace, refused: &JournalError) -> JournalPlace
     ensures { result ≡ place_refused place refused.now }
 {
     match refused {
-        JournalError::StoreFault { .. } => Place::Unsure,
-        JournalError::Adopted { .. } => Place::Given,
+        JournalError::StoreFault { .. } => JournalPlace::Unsure,
+        JournalError::Adopted { .. } => JournalPlace::Given,
         JournalError::Memory(_) => place,
         JournalError::Foreign { .. } => place,
         JournalError::Corrupt { .. } => place,
@@ -31,21 +31,21 @@ fn place_refused(place: Place, refused: &JournalError) -> Place
 }
 
 /// The place behind an append.
-pub fn place_appended(answer: &Result<u64, JournalError>) -> Place
+pub fn place_appended(answer: &Result<u64, JournalError>) -> JournalPlace
     ensures { result ≡ place_appended answer.now }
 {
     match answer {
-        Ok(_) => Place::Sure,
-        Err(refused) => place_refused(Place::Sure, refused),
+        Ok(_) => JournalPlace::Sure,
+        Err(refused) => place_refused(JournalPlace::Sure, refused),
     }
 }
 
 /// The place behind a read of the entry that stands there.
-pub fn place_read(place: Place, answer: &Result<Entry, JournalError>) -> Place
+pub fn place_read(place: JournalPlace, answer: &Result<Entry, JournalError>) -> JournalPlace
     ensures { result ≡ place_read place answer.now }
 {
     match answer {
-        Ok(_) => Place::Given,
+        Ok(_) => JournalPlace::Given,
         Err(refused) => place_refused(place, refused),
     }
 }

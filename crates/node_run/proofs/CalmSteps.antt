@@ -32,14 +32,14 @@ use Rattle.node_run.proofs.Calming.{Same, Calms, begun_count, begun_still, calm_
 abbrev pub StepCalms : Stepped → Stepped → Type 0
 StepCalms step calm_step = (step.outcome ≡ None) ⊎ (step ≡ calm_step)
 
-abbrev pub calm_indexing : indexing.Luck
+abbrev pub calm_indexing : indexing.IndexerLuck
 calm_indexing = indexing_luck calm
 
 checkpoints_calms : (log : Log) (indexer : Indexer) (g g' : Gives Trouble ⊤) → Calms no_memory g g' → StepCalms (checkpoints_given log indexer g) (checkpoints_given log indexer g')
 checkpoints_calms log indexer g g' (inl e) = inl (ap (λ r. (checkpoints_by r log indexer g.core).outcome) e)
 checkpoints_calms log indexer g g' (inr e) = inr (ap (checkpoints_given log indexer) e)
 
-take_calms : (luck : indexing.Luck) (log : Log) (indexer : Indexer) (core : Core) → IsStill core →
+take_calms : (luck : indexing.IndexerLuck) (log : Log) (indexer : Indexer) (core : Core) → IsStill core →
     StepCalms (take_checkpoints luck log indexer core) (take_checkpoints calm_indexing log indexer core)
 take_calms luck log indexer core s = checkpoints_calms log indexer (looked luck.world core) (looked calm_fate core) (looked_calms luck.world core s)
 
@@ -58,7 +58,7 @@ true_is_false e = cc
 called_same : (call : LogCall) (indexer : Indexer) → risen indexer.log_faults call.rises ≡ indexer.log_faults → log_called call indexer ≡ indexer
 called_same call indexer r = ap (λ n. record indexer { log_faults = n }) r
 
-module _ (luck : indexing.Luck) (log : Log) (indexer : Indexer) (core : Core) (s : IsStill core) (below : indexer.log_faults < last_count) where
+module _ (luck : indexing.IndexerLuck) (log : Log) (indexer : Indexer) (core : Core) (s : IsStill core) (below : indexer.log_faults < last_count) where
   abbrev SameLog : Stepped → Type 0
   SameLog step = step.indexer.log_faults ≡ indexer.log_faults
 
@@ -174,7 +174,7 @@ publish_calms held indexer g g' (inr e) = inr (ap (publish_given held indexer) e
 handed : (core a b : Core) → b ≡ a → Same core b → Same core a
 handed core a b e same = sym (ap (λ c. c.store_faults) e) ∙ same
 
-module _ (luck : indexing.Luck) (log : Log) (indexer : Indexer) (core : Core) (s : IsStill core) (below : indexer.log_faults < last_count) where
+module _ (luck : indexing.IndexerLuck) (log : Log) (indexer : Indexer) (core : Core) (s : IsStill core) (below : indexer.log_faults < last_count) where
   abbrev StepIs : Stepped → Stepped → Type 0
   StepIs step calm_step = Same core step.core → step.indexer.log_faults ≡ indexer.log_faults → StepCalms step calm_step
 
@@ -234,7 +234,7 @@ module _ (luck : indexing.Luck) (log : Log) (indexer : Indexer) (core : Core) (s
 abbrev pub SearchCalms : Searched → Searched → Type 0
 SearchCalms step calm_step = (step.outcome ≡ None) ⊎ (step ≡ calm_step)
 
-abbrev pub calm_searching : searching.Luck
+abbrev pub calm_searching : searching.ClientLuck
 calm_searching = searching_luck calm
 
 plan_none : (asked : Result Search Unanswered) (client : Client) (core : Core) → (plan_by (Err no_memory) asked client core).outcome ≡ None
@@ -255,7 +255,7 @@ fetch_calms : (plan : Plan) (number : ℕ) (more : List ℕ) (client : Client) (
 fetch_calms plan number more client g g' (inl e) = inl (ap (λ r. (fetch_by r plan number more client g.core).outcome) e)
 fetch_calms plan number more client g g' (inr e) = inr (ap (fetch_given plan number more client) e)
 
-module _ (luck : searching.Luck) (log : Log) (client : Client) (core : Core) (s : IsStill core) where
+module _ (luck : searching.ClientLuck) (log : Log) (client : Client) (core : Core) (s : IsStill core) where
   abbrev SearchIs : Searched → Searched → Type 0
   SearchIs step calm_step = Same core step.core → SearchCalms step calm_step
 

@@ -19,7 +19,7 @@ use Rattle.upkeep_run.specs.declared.work.Aim.{Aim}
 use Rattle.upkeep_run.specs.declared.work.Aim.TheVariants.{Deleting, Merging}
 use Rattle.node_run.specs.Calm.{IsStill, log_counts, IsOfThese}
 use Rattle.node_run.specs.Node.{Node, Line, At, Assign, StepIndexer, RestartIndexer, RestartClient, StepMerger, RestartMerger, StepDeleter, RestartDeleter, StepCollector, RestartCollector, RestartNode, Open, StepClient, Outcome}
-use Rattle.node_run.specs.Turns.{Luck, calm, Turned, indexer_at, client_named, indexing_luck, searching_luck, said_by_indexer, said_by_client, indexer_stepped, indexer_turn_by, client_stepped, client_turn_by, working_luck, said_by_worker, worker_stepped, worker_turn_by, with_deleter, with_merger, collecting_luck, said_by_collector, collector_stepped, collector_turn_by, restart_by, restart_given, full_turn, or_quiet, turn_by, turn, Turns, run_turned, turns, turns_with, with_calm}
+use Rattle.node_run.specs.Turns.{LineLuck, calm, Turned, indexer_at, client_named, indexing_luck, searching_luck, said_by_indexer, said_by_client, indexer_stepped, indexer_turn_by, client_stepped, client_turn_by, working_luck, said_by_worker, worker_stepped, worker_turn_by, with_deleter, with_merger, collecting_luck, said_by_collector, collector_stepped, collector_turn_by, restart_by, restart_given, full_turn, or_quiet, turn_by, turn, Turns, run_turned, turns, turns_with, with_calm}
 use Rattle.node_run.proofs.Calming.{Same, Calms}
 use Rattle.node_run.proofs.CalmSteps.{StepCalms, SearchCalms, calm_indexing, calm_searching, loaded_calms, indexer_calms, client_calms}
 use Rattle.node_run.proofs.CollectorCalms.{CollectCalms, calm_collecting, collector_calms}
@@ -57,7 +57,7 @@ IsSpelled core = last_number (history core.history) < 2 ^ 64
 abbrev TurnCalms : Turned → Turned → Type 0
 TurnCalms t calm_t = (t.said ≡ None) ⊎ (t ≡ calm_t)
 
-module _ (luck : Luck) (node : Node) (s : IsStill node.core) (below : Below node.indexers) where
+module _ (luck : LineLuck) (node : Node) (s : IsStill node.core) (below : Below node.indexers) where
   indexer_calm : (i : ℕ) (step calm_step : Stepped) → StepCalms step calm_step → TurnCalms (indexer_stepped i node step) (indexer_stepped i node calm_step)
   indexer_calm i step calm_step (inl e) = inl (ap (said_by_indexer i) e)
   indexer_calm i step calm_step (inr e) = inr (ap (indexer_stepped i node) e)

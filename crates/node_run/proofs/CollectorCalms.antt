@@ -9,7 +9,7 @@ use Rattle.index_world.specs.Calls.{Call, Effect, is_at_once, Fate, Gives, gives
 use Rattle.index_world.specs.Collecting.{Offer, answers, appended_if, doom_call, doom_next, dooming, first_offer, is_swept, list_call, making_offer, mark_stale_call, next_doomed, nothing, offer_unless, remove_call, removal_offer, stale_offer, sweep_call, sweep_if, transact_if}
 use Rattle.index_world.specs.Core.{Core}
 use Rattle.split_collector.specs.Outcomes.{Outcome}
-use Rattle.split_collector.specs.Steps.{Luck, Stand, Stepped, alone, called, end_at, ends_behind, first_fate, max_calls, other_fates, outcome_at, outcomes, page_by, page_given, step_collector, stepped, turned}
+use Rattle.split_collector.specs.Steps.{CollectorLuck, Stand, Stepped, alone, called, end_at, ends_behind, first_fate, max_calls, other_fates, outcome_at, outcomes, page_by, page_given, step_collector, stepped, turned}
 use Rattle.split_collector.specs.Turns.{Turn, behind_delete, behind_doom, behind_list, behind_mark, behind_remove, ended, next_behind, to_doom, to_list, to_mark, to_remove, to_sweep}
 use Rattle.split_collector.proofs.Alone.{ended_stays}
 use Rattle.split_collector.proofs.OnePage.{one_page}
@@ -250,7 +250,7 @@ alone_calms (suc calls) turn fates ends core s same =
 abbrev pub CollectCalms : Stepped → Stepped → Type 0
 CollectCalms step calm_step = (step.outcome ≡ None) ⊎ (step ≡ calm_step)
 
-abbrev pub calm_collecting : Luck
+abbrev pub calm_collecting : CollectorLuck
 calm_collecting = collecting_luck calm
 
 alone_still : (calls : ℕ) (turn : Turn (Option Outcome)) (ends : List (List ℕ)) (core : Core) → IsStill core → IsStill (alone calls turn [] ends core).core
@@ -271,7 +271,7 @@ enough : (ends : List (List ℕ)) (more : List Fate) → 5 + 2 * length ends ≤
 enough ends more = omega arith
 
 -- wherever its pages end
-pub collector_calms : (luck : Luck) (core : Core) → IsStill core → last_number (history (step_collector luck core).core.history) < 2 ^ 64 → Same core (step_collector luck core).core →
+pub collector_calms : (luck : CollectorLuck) (core : Core) → IsStill core → last_number (history (step_collector luck core).core.history) < 2 ^ 64 → Same core (step_collector luck core).core →
     CollectCalms (step_collector luck core) (step_collector calm_collecting core)
 collector_calms luck core s small same = by luck.short (alone_calms (max_calls luck) to_mark (luck.world ∷ luck.more) luck.ends core s same)
   where

@@ -8,7 +8,7 @@ use Rattle.index_world.specs.Calls.{Call, is_at_once, Fate, Made, made, exists, 
 use Rattle.index_world.specs.Collecting.{Offer, adopted_offer, answered_by, appended_if, doom_call, doom_next, doomed_by, first_offer, last_offer, next_doomed, nothing, offer_unless, removal_offer, stale_offer, sweep_if, transact_if, is_swept}
 use Rattle.index_world.specs.Core.{Core}
 use Rattle.split_collector.specs.Outcomes.{Outcome}
-use Rattle.split_collector.specs.Steps.{CallLuck, Luck, alone, end_at, ends_behind, first_fate, max_calls, other_fates, step_collector, turned}
+use Rattle.split_collector.specs.Steps.{CallLuck, CollectorLuck, alone, end_at, ends_behind, first_fate, max_calls, other_fates, step_collector, turned}
 use Rattle.split_collector.specs.Turns.{Turn, ended, to_doom, to_list, to_mark, to_remove, to_sweep}
 use Rattle.node_run.proofs.CallMoves.{Moves, kept, same, stays, moves_on, begun_moves, create_moves, taken_moves, get_moves, or_short_moves, asking_moves, then_moves, settled_moves, last_moves, troubled_moves, file_got_moves}
 
@@ -100,5 +100,5 @@ alone_moves zero turn fates ends core = stays refl
 alone_moves (suc calls) turn fates ends core =
     moves_on (called_moves turn (record { fate = first_fate fates; end = end_at turn ends }) core) (alone_moves calls _ (other_fates fates) (ends_behind turn ends) _)
 
-pub collector_moves : (luck : Luck) (core : Core) → Moves core (step_collector luck core).core
+pub collector_moves : (luck : CollectorLuck) (core : Core) → Moves core (step_collector luck core).core
 collector_moves luck core = alone_moves (max_calls luck) to_mark _ luck.ends core

@@ -10,7 +10,7 @@ use Rattle.index_world.specs.Calls as calls
 use Rattle.index_world.specs.Collecting.{Offer, adopted_offer, answered_by, appended_if, doom_call, doom_next, doomed_by, first_offer, is_swept, last_offer, list_call, mark_stale_call, next_doomed, nothing, offer_unless, remove_call, removal_offer, stale_offer, sweep_call, sweep_if, transact_if}
 use Rattle.index_world.specs.Core.{Core}
 use Rattle.split_collector.specs.Outcomes.{Outcome}
-use Rattle.split_collector.specs.Steps.{CallLuck, Luck, alone, end_at, ends_behind, failed_with, first_fate, least_left, max_calls, other_fates, outcome_at, outcome_unless, outcomes, page_by, step_collector, turned}
+use Rattle.split_collector.specs.Steps.{CallLuck, CollectorLuck, alone, end_at, ends_behind, failed_with, first_fate, least_left, max_calls, other_fates, outcome_at, outcome_unless, outcomes, page_by, step_collector, turned}
 use Rattle.split_collector.specs.Turns.{Turn, behind_delete, behind_doom, behind_list, counted, ended, next_behind, page_turn, paging, to_doom, to_list, to_mark, to_remove, to_sweep}
 use Rattle.node_run.specs.Telling.{CollectorMayTell}
 use Rattle.node_run.proofs.CallTells.{Gave, IfErr, IsLowCore, IsOwnTrouble, IsSettled, IsStoreTrouble, Keeps, MadeLow, Settles, create_low, get_settles, last_keeps, or_short_own, got_file_own, settled_low, settles, store_not_foreign, taken_low}
@@ -234,6 +234,6 @@ unless_tells : (short : Bool) (outcome : Option Outcome) → Tells outcome → T
 unless_tells true outcome h = tt
 unless_tells false outcome h = h
 
-pub collector_tells : (luck : Luck) (core : Core) → IsLawful core → Tells (step_collector luck core).outcome
+pub collector_tells : (luck : CollectorLuck) (core : Core) → IsLawful core → Tells (step_collector luck core).outcome
 collector_tells luck core low =
     let last = alone (max_calls luck) to_mark (luck.world ∷ luck.more) luck.ends core in unless_tells luck.short (outcome_at last.turn) (at_tells last.turn last.core (alone_goes (max_calls luck) to_mark (luck.world ∷ luck.more) luck.ends core low))

@@ -21,7 +21,7 @@ use Rattle.upkeep_run.specs.declared.work.Aim.{Aim}
 use Rattle.upkeep_run.specs.declared.work.Aim.TheVariants.{Deleting, Merging}
 use Rattle.node_run.specs.Calm.{log_counts}
 use Rattle.node_run.specs.Node.{Node, Line, At, Assign, StepIndexer, RestartIndexer, RestartClient, StepMerger, RestartMerger, StepDeleter, RestartDeleter, StepCollector, RestartCollector, RestartNode, Open, StepClient, Outcome}
-use Rattle.node_run.specs.Turns.{Luck, Turned, made_idle, indexer_at, indexing_luck, assign_at, indexer_turn_by, client_turn_by, client_named, working_luck, worker_turn_by, with_deleter, with_merger, collector_turn_by, open_by, restart_by, full_turn, quiet, or_quiet, turn_by, Turn, Turns}
+use Rattle.node_run.specs.Turns.{LineLuck, Turned, made_idle, indexer_at, indexing_luck, assign_at, indexer_turn_by, client_turn_by, client_named, working_luck, worker_turn_by, with_deleter, with_merger, collector_turn_by, open_by, restart_by, full_turn, quiet, or_quiet, turn_by, Turn, Turns}
 use Rattle.node_run.proofs.CalmSteps.{checkpoints_log}
 
 -- ---- one count
@@ -33,7 +33,7 @@ NotBelow a b = min a last_count ≤ b
 same_count : (a b : ℕ) → b ≡ a → NotBelow a b
 same_count a b e = omega (arith, e)
 
-take_count : (luck : indexing.Luck) (log : Log) (indexer : Indexer) (core : Core) → (take_checkpoints luck log indexer core).indexer.log_faults ≡ indexer.log_faults
+take_count : (luck : indexing.IndexerLuck) (log : Log) (indexer : Indexer) (core : Core) → (take_checkpoints luck log indexer core).indexer.log_faults ≡ indexer.log_faults
 take_count luck log indexer core = let given = looked luck.world core in checkpoints_log given.answer log indexer given.core
 
 stage_count : (r : Result ⊤ Unmade) (batch : Batch) (indexer : Indexer) (core : Core) → (stage_by r batch indexer core).indexer.log_faults ≡ indexer.log_faults
@@ -48,7 +48,7 @@ publish_count : (r : Result ⊤ Unmade) (held : Held) (indexer : Indexer) (core 
 publish_count (Ok done) held indexer core = refl
 publish_count (Err e) held indexer core = refl
 
-module _ (luck : indexing.Luck) (log : Log) (indexer : Indexer) where
+module _ (luck : indexing.IndexerLuck) (log : Log) (indexer : Indexer) where
   abbrev Counts : Stepped → Type 0
   Counts step = NotBelow indexer.log_faults step.indexer.log_faults
 
@@ -159,24 +159,24 @@ module _ (node : Node) where
   assign_counted (staged held) i names = unchanged node.indexers refl
   assign_counted (uploaded held) i names = unchanged node.indexers refl
 
-  indexer_counted : (down : Bool) (luck : Luck) (i : ℕ) → Counted (indexer_turn_by down luck i node).node
+  indexer_counted : (down : Bool) (luck : LineLuck) (i : ℕ) → Counted (indexer_turn_by down luck i node).node
   indexer_counted true luck i = unchanged node.indexers refl
   indexer_counted false luck i =
       let step = step_indexer (indexing_luck luck) node.log (indexer_at node.indexers i) node.core in
       set_counts node.indexers i step.indexer (indexer_counts (indexing_luck luck) node.log (indexer_at node.indexers i) node.core)
 
-  client_counted : (down : Bool) (luck : Luck) (name : List ℕ) → Counted (client_turn_by down luck name node).node
+  client_counted : (down : Bool) (luck : LineLuck) (name : List ℕ) → Counted (client_turn_by down luck name node).node
   client_counted true luck name = unchanged node.indexers refl
   client_counted false luck name = unchanged node.indexers refl
 
   -- what is kept of a worker leaves the indexers as they are
-  worker_counted : (down : Bool) (aim : Aim) (worker : Worker) (keep : Worker → Node → Node) (luck : Luck) → ((place : Worker) → (keep place node).indexers ≡ node.indexers) →
+  worker_counted : (down : Bool) (aim : Aim) (worker : Worker) (keep : Worker → Node → Node) (luck : LineLuck) → ((place : Worker) → (keep place node).indexers ≡ node.indexers) →
       Counted (worker_turn_by down aim worker keep luck node).node
   worker_counted true aim worker keep luck same = unchanged node.indexers refl
   worker_counted false aim worker keep luck same =
       let step = step_worker aim (working_luck luck) node.log worker node.core in unchanged (keep step.place node).indexers (ap log_counts (same step.place))
 
-  collector_counted : (down : Bool) (luck : Luck) → Counted (collector_turn_by down luck node).node
+  collector_counted : (down : Bool) (luck : LineLuck) → Counted (collector_turn_by down luck node).node
   collector_counted true luck = unchanged node.indexers refl
   collector_counted false luck = unchanged node.indexers refl
 
@@ -191,7 +191,7 @@ module _ (node : Node) where
   restart_counted (Err (not_read no_memory)) core = unchanged (map made_idle node.indexers) (idle_same node.indexers)
   restart_counted (Err calls.no_index) core = unchanged (map made_idle node.indexers) (idle_same node.indexers)
 
-  full_counted : (luck : Luck) (line : Line) → Counted (full_turn luck node line).node
+  full_counted : (luck : LineLuck) (line : Line) → Counted (full_turn luck node line).node
   full_counted luck (At moment) = unchanged node.indexers refl
   full_counted luck (Assign i names) = assign_counted (indexer_at node.indexers i).place i names
   full_counted luck (StepIndexer i) = indexer_counted node.down luck i
@@ -231,7 +231,7 @@ or_quiet_counted true node line turn h =
     none_fell_on (log_counts node.indexers) (log_counts turn.node.indexers) (log_counts (quiet line turn.node).indexers) h (quiet_counted turn.node line)
 or_quiet_counted false node line turn h = h
 
-turn_by_counted : (b : Bool) (luck : Luck) (node : Node) (line : Line) → NodeCounted node (turn_by b luck node line).node
+turn_by_counted : (b : Bool) (luck : LineLuck) (node : Node) (line : Line) → NodeCounted node (turn_by b luck node line).node
 turn_by_counted true luck node line = quiet_counted node line
 turn_by_counted false luck node line = or_quiet_counted luck.short node line (full_turn luck node line) (full_counted node luck line)
 

@@ -25,7 +25,7 @@ use Rattle.upkeep_run.specs.Places.{Place as Worker}
 use Rattle.upkeep_run.specs.declared.work.Aim.{Aim}
 use Rattle.upkeep_run.specs.declared.work.Aim.TheVariants.{Deleting, Merging}
 use Rattle.node_run.specs.Node.{Node, Line, At, Assign, StepIndexer, RestartIndexer, RestartClient, StepMerger, RestartMerger, StepDeleter, RestartDeleter, StepCollector, RestartCollector, RestartNode, Open, StepClient, Outcome}
-use Rattle.node_run.specs.Turns.{Luck, Turned, indexer_at, indexing_luck, searching_luck, assign_at, indexer_turn_by, client_turn_by, client_named, working_luck, worker_turn_by, with_deleter, with_merger, collecting_luck, collector_turn_by, open_by, restart_by, full_turn, quiet, or_quiet, turn_by, Turn, Turns}
+use Rattle.node_run.specs.Turns.{LineLuck, Turned, indexer_at, indexing_luck, searching_luck, assign_at, indexer_turn_by, client_turn_by, client_named, working_luck, worker_turn_by, with_deleter, with_merger, collecting_luck, collector_turn_by, open_by, restart_by, full_turn, quiet, or_quiet, turn_by, Turn, Turns}
 use Rattle.node_run.proofs.CallMoves.{Later, Moves, same, stays, later_same, later_on, moves_on, appended_moves, looked_moves, asked_and_looked_moves, asked_moves, file_made_moves, each_moves, loaded_moves}
 use Rattle.node_run.proofs.CollectorMoves.{collector_moves}
 use Rattle.node_run.proofs.WorkerMoves.{worker_moves}
@@ -48,16 +48,16 @@ pub publish_same : (r : Result ⊤ Unmade) (held : Held) (indexer : Indexer) (co
 publish_same (Ok done) held indexer core = refl
 publish_same (Err trouble) held indexer core = refl
 
-take_moves : (luck : indexing.Luck) (log : Log) (indexer : Indexer) (core : Core) → Moves core (take_checkpoints luck log indexer core).core
+take_moves : (luck : indexing.IndexerLuck) (log : Log) (indexer : Indexer) (core : Core) → Moves core (take_checkpoints luck log indexer core).core
 take_moves luck log indexer core =
     moves_on (looked_moves luck.world core) (same (checkpoints_same _ log indexer _))
 
-read_same : (b : Bool) (luck : indexing.Luck) (log : Log) (batch : Batch) (mark : Checkpoint) (rest : List Checkpoint) (indexer : Indexer) (core : Core) →
+read_same : (b : Bool) (luck : indexing.IndexerLuck) (log : Log) (batch : Batch) (mark : Checkpoint) (rest : List Checkpoint) (indexer : Indexer) (core : Core) →
     (read_by b luck log batch mark rest indexer core).core ≡ core
 read_same true luck log batch mark rest indexer core = refl
 read_same false luck log batch mark rest indexer core = refl
 
-pub given_same : (luck : indexing.Luck) (log : Log) (batch : Batch) (mark : Checkpoint) (rest : List Checkpoint) (indexer : Indexer) (r : Result ⊤ Trouble) (core : Core) →
+pub given_same : (luck : indexing.IndexerLuck) (log : Log) (batch : Batch) (mark : Checkpoint) (rest : List Checkpoint) (indexer : Indexer) (r : Result ⊤ Trouble) (core : Core) →
     (read_given luck log batch mark rest indexer r core).core ≡ core
 given_same luck log batch mark rest indexer (Err trouble) core = refl
 given_same luck log batch mark rest indexer (Ok done) core = read_same (log_may_fail luck.log indexer.log_faults) luck log batch mark rest indexer core
@@ -70,7 +70,7 @@ indexer_short_same : (b : Bool) (step : Stepped) → (indexing.or_short b step).
 indexer_short_same true step = refl
 indexer_short_same false step = refl
 
-module _ (luck : indexing.Luck) (log : Log) (indexer : Indexer) (core : Core) where
+module _ (luck : indexing.IndexerLuck) (log : Log) (indexer : Indexer) (core : Core) where
   idle_moves : (b : Bool) (names : Option (List (List ℕ))) → Moves core (idle_by b names luck log indexer core).core
   idle_moves true None = stays refl
   idle_moves false None = take_moves luck log (log_called luck.log indexer) core
@@ -137,7 +137,7 @@ client_short_same : (b : Bool) (client : Client) (step : searching.Searched) →
 client_short_same true client step = refl
 client_short_same false client step = refl
 
-module _ (luck : searching.Luck) (log : Log) (client : Client) (core : Core) where
+module _ (luck : searching.ClientLuck) (log : Log) (client : Client) (core : Core) where
   next_moves : (plan : Plan) (unfetched : List ℕ) → Moves core (next_step luck log plan unfetched client core).core
   next_moves plan [] = stays refl
   next_moves plan (number ∷ more) =
@@ -182,24 +182,24 @@ restart_same (Err (not_read (faulted fault))) core node = refl
 restart_same (Err (not_read no_memory)) core node = refl
 restart_same (Err calls.no_index) core node = refl
 
-pub indexer_turn_moves : (down : Bool) (luck : Luck) (i : ℕ) (node : Node) → Moves node.core (indexer_turn_by down luck i node).node.core
+pub indexer_turn_moves : (down : Bool) (luck : LineLuck) (i : ℕ) (node : Node) → Moves node.core (indexer_turn_by down luck i node).node.core
 indexer_turn_moves true luck i node = stays refl
 indexer_turn_moves false luck i node = indexer_moves (indexing_luck luck) node.log (indexer_at node.indexers i) node.core
 
-pub client_turn_moves : (down : Bool) (luck : Luck) (name : List ℕ) (node : Node) → Moves node.core (client_turn_by down luck name node).node.core
+pub client_turn_moves : (down : Bool) (luck : LineLuck) (name : List ℕ) (node : Node) → Moves node.core (client_turn_by down luck name node).node.core
 client_turn_moves true luck name node = stays refl
 client_turn_moves false luck name node = client_moves (searching_luck luck) node.log (client_named name node.clients) node.core
 
-pub worker_turn_moves : (down : Bool) (aim : Aim) (worker : Worker) (keep : Worker → Node → Node) (luck : Luck) (node : Node) →
+pub worker_turn_moves : (down : Bool) (aim : Aim) (worker : Worker) (keep : Worker → Node → Node) (luck : LineLuck) (node : Node) →
     Moves node.core (worker_turn_by down aim worker keep luck node).node.core
 worker_turn_moves true aim worker keep luck node = stays refl
 worker_turn_moves false aim worker keep luck node = worker_moves (working_luck luck) node.log node.core aim worker
 
-pub collector_turn_moves : (down : Bool) (luck : Luck) (node : Node) → Moves node.core (collector_turn_by down luck node).node.core
+pub collector_turn_moves : (down : Bool) (luck : LineLuck) (node : Node) → Moves node.core (collector_turn_by down luck node).node.core
 collector_turn_moves true luck node = stays refl
 collector_turn_moves false luck node = collector_moves (collecting_luck luck) node.core
 
-full_later : (luck : Luck) (node : Node) (line : Line) → Later node.core (full_turn luck node line).node.core
+full_later : (luck : LineLuck) (node : Node) (line : Line) → Later node.core (full_turn luck node line).node.core
 full_later luck node (At moment) = later_same refl refl
 full_later luck node (Assign i names) =
     (same (assign_same (indexer_at node.indexers i).place i names (indexer_at node.indexers i) node)).later
@@ -238,7 +238,7 @@ or_quiet_same : (b : Bool) (line : Line) (turn : Turned) → (or_quiet b line tu
 or_quiet_same true line turn = quiet_same line turn.node
 or_quiet_same false line turn = refl
 
-turn_by_later : (b : Bool) (luck : Luck) (node : Node) (line : Line) → Later node.core (turn_by b luck node line).node.core
+turn_by_later : (b : Bool) (luck : LineLuck) (node : Node) (line : Line) → Later node.core (turn_by b luck node line).node.core
 turn_by_later true luck node line = (same (quiet_same line node)).later
 turn_by_later false luck node line =
     later_on (full_later luck node line) (same (or_quiet_same luck.short line (full_turn luck node line))).later

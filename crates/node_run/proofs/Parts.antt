@@ -56,7 +56,7 @@ use Rattle.node_run.specs.Lines.{outcome_text}
 use Rattle.node_run.specs.Named.{NamedAt, names_of, HasPlaces}
 use Rattle.node_run.specs.Node.{Node, Line, At, Assign, StepIndexer, RestartIndexer, RestartClient, StepMerger, RestartMerger, StepDeleter, RestartDeleter, StepCollector, RestartCollector, RestartNode, Open, StepClient, Outcome, request_busy, assigned, indexer_busy, node_failed, world_fault, no_index}
 use Rattle.node_run.specs.Standing.{PartsStand, NodeStands, DoesMost, DoesLine, HoldApart}
-use Rattle.node_run.specs.Turns.{restart_by, Luck, calm, Turn, Turned, turned, full_turn, quiet, assign_at, with_indexer, indexer_at, made_idle, client_named, with_client, keep_client, stopped, restarted, indexer_stepped, client_stepped, indexer_turn_by, client_turn_by, said_by_indexer, said_by_client, with_deleter, with_merger, worker_turn_by, collector_stepped, collector_turn_by, said_by_collector, open_by}
+use Rattle.node_run.specs.Turns.{restart_by, LineLuck, calm, Turn, Turned, turned, full_turn, quiet, assign_at, with_indexer, indexer_at, made_idle, client_named, with_client, keep_client, stopped, restarted, indexer_stepped, client_stepped, indexer_turn_by, client_turn_by, said_by_indexer, said_by_client, with_deleter, with_merger, worker_turn_by, collector_stepped, collector_turn_by, said_by_collector, open_by}
 use Rattle.node_run.proofs.Telling.{stands_own}
 use Rattle.node_run.proofs.Names.{with_with, named_set}
 use Rattle.node_run.proofs.Places.{names_with, names_without}
@@ -69,12 +69,12 @@ use Rattle.node_run.proofs.Zips.{zip_length, zip_weaker, zip_set, zip_at, zip_ri
 -- ---- what is answered
 
 module _ {S L : Type 0} (told : L → Option Log) (count : L → ℕ) (since : L → L → Type 0) (firsts : List L) (node : Node) (line : Line) (new : DriveNode S L) where
-  pub most_done : (r : Result OutLine AllocError) (luck : Luck) (outcome : Outcome) (last : Node) → full_turn luck node line ≡ turned outcome last →
+  pub most_done : (r : Result OutLine AllocError) (luck : LineLuck) (outcome : Outcome) (last : Node) → full_turn luck node line ≡ turned outcome last →
       IfOk r (λ out. out.bytes ≡ outcome_text outcome) → NodeStands told count since firsts new last → DoesMost told count since firsts node line r new
   most_done (Ok out) luck outcome last e text stands = (luck, outcome, last, e, text, stands)
   most_done (Err refused) luck outcome last e text stands = inr (luck, turned outcome last, e, stands)
 
-  pub most_short : (Q : AllocError → Type 0) (r : Result OutLine AllocError) → IsErrAnd r Q → (luck : Luck) (turn : Turned) → full_turn luck node line ≡ turn →
+  pub most_short : (Q : AllocError → Type 0) (r : Result OutLine AllocError) → IsErrAnd r Q → (luck : LineLuck) (turn : Turned) → full_turn luck node line ≡ turn →
       NodeStands told count since firsts new turn.node → DoesMost told count since firsts node line r new
   most_short Q (Ok out) err luck turn e stands = absurd err
   most_short Q (Err refused) err luck turn e stands = inr (luck, turn, e, stands)
@@ -363,7 +363,7 @@ module _ {L : Type 0} (told : L → Option Log) (count : L → ℕ) (since : L �
 
 -- ---- a step's names
 
-pub searched_name : (luck : searching.Luck) (log : Log) (client : Client) (core : Core) → (searching.step_client luck log client core).client.name ≡ client.name
+pub searched_name : (luck : searching.ClientLuck) (log : Log) (client : Client) (core : Core) → (searching.step_client luck log client core).client.name ≡ client.name
 searched_name luck log client core = short luck.short where
   troubled : (revision : ℕ) (t : Trouble) (c : Core) → (searching.trouble_replied revision t client c).client.name ≡ client.name
   troubled revision (faulted fault) c = refl
@@ -415,7 +415,7 @@ pub indexer_turns : {L : Type 0} (told : L → Option Log) (count : L → ℕ) (
     full_turn (record { log = s.luck.log; world = s.luck.world; more = []; ends = []; inner = s.luck.short; early = false; short = false }) node (StepIndexer i)
     ≡ record { said = said_by_indexer i s.outcome; node = record (with_indexer i s.after node) { core = s.behind } }
 indexer_turns told count node i new world' result up s =
-    let luck : Luck = record { log = s.luck.log; world = s.luck.world; more = []; ends = []; inner = s.luck.short; early = false; short = false } in
+    let luck : LineLuck = record { log = s.luck.log; world = s.luck.world; more = []; ends = []; inner = s.luck.short; early = false; short = false } in
     ap (λ b. indexer_turn_by b luck i node) up
     ∙ ap (indexer_stepped i node) s.did
 
@@ -424,11 +424,11 @@ pub client_turns : (node : Node) (name : List ℕ) (new : Searcher) (world' : Ke
     full_turn (record { log = calm.log; world = s.luck.world; more = s.luck.more; ends = []; inner = s.luck.short; early = false; short = false }) node (StepClient name)
     ≡ record { said = said_by_client name s.outcome; node = record (keep_client s.later node) { core = s.after } }
 client_turns node name new world' result up s =
-    let luck : Luck = record { log = calm.log; world = s.luck.world; more = s.luck.more; ends = []; inner = s.luck.short; early = false; short = false } in
+    let luck : LineLuck = record { log = calm.log; world = s.luck.world; more = s.luck.more; ends = []; inner = s.luck.short; early = false; short = false } in
     ap (λ b. client_turn_by b luck name node) up
     ∙ ap (client_stepped name node) s.did
 
-abbrev pub collecting_alone : {result : Result Collected AllocError} {world : Keeping} {core : Core} {log : Log} → CollectsAlone result world core log → Luck
+abbrev pub collecting_alone : {result : Result Collected AllocError} {world : Keeping} {core : Core} {log : Log} → CollectsAlone result world core log → LineLuck
 collecting_alone s = record { log = calm.log; world = s.luck.world; more = s.luck.more; ends = s.luck.ends; inner = s.luck.short; early = false; short = false }
 
 pub collector_turns : (node : Node) (world' : Keeping) (result : Result Collected AllocError) → node.down ≡ false → (s : CollectsAlone result world' node.core node.log) →
@@ -451,7 +451,7 @@ busy_turn (searching.planned plan) name text client node busy = refl
 
 -- ---- a whole line
 
-full_same : (luck : Luck) (early short : Bool) (node : Node) (line : Line) → full_turn (record luck { early = early; short = short }) node line ≡ full_turn luck node line
+full_same : (luck : LineLuck) (early short : Bool) (node : Node) (line : Line) → full_turn (record luck { early = early; short = short }) node line ≡ full_turn luck node line
 full_same luck early short node (At moment) = refl
 full_same luck early short node (Assign i names) = refl
 full_same luck early short node (StepIndexer i) = by node.down where
@@ -642,7 +642,7 @@ pub was_loaded : (answer : Result ⊤ Unread) (after : Core) → Says {A = Unit 
 was_loaded (Ok done) after says = refl
 was_loaded (Err unread) after says = absurd says
 
-pub failed_restart : {S L : Type 0} (told : L → Option Log) (count : L → ℕ) (since : L → L → Type 0) (firsts : List L) (node : Node) (new : DriveNode S L) (luck : Luck) (after : Core)
+pub failed_restart : {S L : Type 0} (told : L → Option Log) (count : L → ℕ) (since : L → L → Type 0) (firsts : List L) (node : Node) (new : DriveNode S L) (luck : LineLuck) (after : Core)
     (error : WorldError) (r : Result OutLine AllocError) (answer : Result ⊤ Unread) → full_turn luck node RestartNode ≡ restart_by answer after node →
     Says {A = Unit {0}} IsUnread IsLoaded (Err error) answer after → NodeStands told count since firsts new (stopped after node) →
     (IsUnread error (not_read no_memory) → IsErr r) → ((fault : Fault) → IsUnread error (not_read (faulted fault)) → IfOk r (λ out. out.bytes ≡ outcome_text (node_failed (world_fault fault)))) →

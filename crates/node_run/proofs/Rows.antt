@@ -22,7 +22,7 @@ use Rattle.split_bundle.specs.declared.placed.Placed.{Placed}
 use Rattle.node_run.proofs.OnLiterals.{path_on_literals}
 use Rattle.node_run.specs.Lines.{outcome_text}
 use Rattle.node_run.specs.Node.{Node, Line, At, Assign, StepIndexer, RestartIndexer, StepCollector, RestartCollector, RestartNode, Open, StepClient}
-use Rattle.node_run.specs.Turns.{turns, turns_with, opened_node, Fated, Luck, Ran, calm}
+use Rattle.node_run.specs.Turns.{turns, turns_with, opened_node, Fated, LineLuck, Ran, calm}
 
 -- ---- a configuration
 
@@ -137,23 +137,23 @@ unfolding path_on_literals
 late_reader = refl
 
 -- a call fails, and its create is late or over
-abbrev pub fails_with : Effect → Luck
+abbrev pub fails_with : Effect → LineLuck
 fails_with effect = record calm { world = record calm_fate { first = record calm_call { fails = true; effect = effect; rises = 1 } } }
 
-abbrev pub fails_once : Luck
+abbrev pub fails_once : LineLuck
 fails_once = fails_with done_late
 
-abbrev pub fails_for_good : Luck
+abbrev pub fails_for_good : LineLuck
 fails_for_good = fails_with done_never
 
 -- the first late entry lands as the next call begins
-abbrev pub first_lands : Luck
+abbrev pub first_lands : LineLuck
 first_lands = record calm { world = record calm_fate { first = record calm_call { lands = 0 ∷ [] } } }
 
 abbrev pub calm_lines : List Line → List Fated
 calm_lines lines = map (λ line. record { line = line; luck = calm }) lines
 
-abbrev pub with_luck : Luck → Line → Fated
+abbrev pub with_luck : LineLuck → Line → Fated
 with_luck luck line = record { line = line; luck = luck }
 
 -- the create of the Publish fails, and lands as the next call begins
@@ -274,7 +274,7 @@ unfolding path_on_literals
 row_collected = refl
 
 -- the first late create lands as the collector lists
-abbrev pub lands_in_a_sweep : Luck
+abbrev pub lands_in_a_sweep : LineLuck
 lands_in_a_sweep = record calm { more = calm_fate ∷ calm_fate ∷ record calm_fate { first = record calm_call { lands = 0 ∷ [] } } ∷ [] }
 
 -- an upload fails, and lands when its row is gone

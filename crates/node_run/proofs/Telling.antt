@@ -43,7 +43,7 @@ use Rattle.upkeep_run.specs.declared.work.Aim.TheVariants.{Deleting, Merging}
 use Rattle.upkeep_run.specs.declared.work.Place.{Place as WorkerPlace}
 use Rattle.node_run.specs.Node.{Node, Line, At, Assign, StepIndexer, RestartIndexer, RestartClient, StepMerger, RestartMerger, StepDeleter, RestartDeleter, StepCollector, RestartCollector, RestartNode, Open, StepClient, Outcome}
 use Rattle.node_run.specs.Telling.{IndexerMayTell, IsOfText, RefusalMayTell, SearchMayTell, LineMayTell}
-use Rattle.node_run.specs.Turns.{Luck, Turned, indexer_or, indexer_at, indexing_luck, searching_luck, said_by_indexer, said_by_client, assign_at, indexer_turn_by, client_turn_by, client_named, working_luck, said_by_worker, worker_turn_by, with_deleter, with_merger, collecting_luck, collector_turn_by, said_by_collector, open_by, restart_by, full_turn, or_quiet, turn_by, Turn}
+use Rattle.node_run.specs.Turns.{LineLuck, Turned, indexer_or, indexer_at, indexing_luck, searching_luck, said_by_indexer, said_by_client, assign_at, indexer_turn_by, client_turn_by, client_named, working_luck, said_by_worker, worker_turn_by, with_deleter, with_merger, collecting_luck, collector_turn_by, said_by_collector, open_by, restart_by, full_turn, or_quiet, turn_by, Turn}
 use Rattle.node_run.proofs.Refusals.{OfText, asked_of_text, text_may, answer_may}
 use Rattle.node_run.proofs.CallTells.{AreLow, IsStoreTrouble, IsOwnTrouble, IfErr, appended_own, file_own, copied_own, asked_and_looked_own, asked_own, IsFetchTrouble, each_own, IsStoreUnread, load_own, IsFree, store_not_foreign}
 use Rattle.node_run.proofs.CollectorTells.{Tells, collector_tells}
@@ -89,7 +89,7 @@ PlaceIsFree core (reading batch) = Unit {0}
 PlaceIsFree core (staged held) = IsFree core (split_key held.number)
 PlaceIsFree core (uploaded held) = Unit {0}
 
-module _ (luck : indexing.Luck) (log : Log) (core : Core) (low : AreLow (length core.history) core) where
+module _ (luck : indexing.IndexerLuck) (log : Log) (core : Core) (low : AreLow (length core.history) core) where
   checkpoints_tell : (r : Result ⊤ Trouble) (indexer : Indexer) (c : Core) → IfErr IsStoreTrouble r → StepTells (checkpoints_by r log indexer c).outcome
   checkpoints_tell (Ok done) indexer c h = tt
   checkpoints_tell (Err trouble) indexer c h = trouble_tells trouble h
@@ -225,7 +225,7 @@ fetch_tells : (r : Result ⊤ Trouble) (plan : Plan) (number : ℕ) (more : List
 fetch_tells (Ok done) plan number more client core h = tt
 fetch_tells (Err trouble) plan number more client core h = too_late_tells plan.revision trouble client core h
 
-module _ (luck : searching.Luck) (log : Log) (client : Client) (core : Core) (low : AreLow (length core.history) core) where
+module _ (luck : searching.ClientLuck) (log : Log) (client : Client) (core : Core) (low : AreLow (length core.history) core) where
   next_tells : (plan : Plan) (unfetched : List ℕ) → SearchTells (next_step luck log plan unfetched client core).outcome
   next_tells plan [] = answer_may (config_at plan.revision core).schema plan.search (visible_at plan.revision core.history log)
   next_tells plan (number ∷ more) =
@@ -291,7 +291,7 @@ free_or : (core : Core) (o : Option Indexer) → ((indexer : Indexer) → o ≡ 
 free_or core None f = tt
 free_or core (Some indexer) f = f indexer refl
 
-module _ (luck : Luck) (node : Node) (own : IsOwn node) where
+module _ (luck : LineLuck) (node : Node) (own : IsOwn node) where
   assign_tells : (place : Place) (i : ℕ) (names : List (List ℕ)) (indexer : Indexer) → LineMayTell (assign_at place i names indexer node).said
   assign_tells idle i names indexer = tt
   assign_tells (reading batch) i names indexer = tt

@@ -9,7 +9,7 @@ use Rattle.index_world.specs.Calls.{Gives, Trouble, Unmade, asked_and_looked, ca
 use Rattle.index_world.specs.Core.{Core}
 use Rattle.index_world.specs.Gate.{raise_call, replace_call, stage_act, stage_call}
 use Rattle.upkeep_run.specs.Places.{Held, Place, Work, fetching, held_facts, held_file, idle, staged, uploaded}
-use Rattle.upkeep_run.specs.Steps.{Luck, Stepped, drops_none, fetch_by, fetch_given, first_number, grace_in, held_of, or_short, plan_by, plan_given, raise_by, raise_given, replace_by, replace_given, stage_by, stage_given, step_close, step_place, step_raise, step_stage, step_work, step_worker, upload_by, upload_given}
+use Rattle.upkeep_run.specs.Steps.{WorkerLuck, Stepped, drops_none, fetch_by, fetch_given, first_number, grace_in, held_of, or_short, plan_by, plan_given, raise_by, raise_given, replace_by, replace_given, stage_by, stage_given, step_close, step_place, step_raise, step_stage, step_work, step_worker, upload_by, upload_given}
 use Rattle.upkeep_run.specs.declared.work.Aim.{Aim}
 use Rattle.upkeep_run.specs.declared.work.Aim.TheVariants.{Deleting, Merging}
 use Rattle.node_run.specs.Calm.{IsStill}
@@ -20,7 +20,7 @@ use Rattle.node_run.proofs.WorkerMoves.{fetched_same, planned_same, raised_same,
 abbrev pub WorkCalms : Stepped → Stepped → Type 0
 WorkCalms step calm_step = (step.outcome ≡ None) ⊎ (step ≡ calm_step)
 
-abbrev pub calm_working : Luck
+abbrev pub calm_working : WorkerLuck
 calm_working = working_luck calm
 
 -- ---- behind a call
@@ -55,7 +55,7 @@ handed core a b e same = sym (ap (λ c. c.store_faults) e) ∙ same
 
 -- ---- a step
 
-module _ (luck : Luck) (log : Log) (core : Core) (s : IsStill core) where
+module _ (luck : WorkerLuck) (log : Log) (core : Core) (s : IsStill core) where
   abbrev StepIs : Stepped → Stepped → Type 0
   StepIs step calm_step = Same core step.core → WorkCalms step calm_step
 

@@ -9,7 +9,7 @@ use Rattle.index_world.specs.Calls.{Trouble, Unmade}
 use Rattle.index_world.specs.Core.{Core}
 use Rattle.index_world.specs.Gate.{stage_act}
 use Rattle.upkeep_run.specs.Places.{Held, Place, Work, fetching, held_facts, held_file, idle, staged, uploaded}
-use Rattle.upkeep_run.specs.Steps.{Luck, Stepped, drops_none, fetch_by, first_number, grace_in, held_of, or_short, plan_by, plan_with, raise_by, replace_by, rows_in, stage_by, step_close, step_place, step_raise, step_stage, step_work, step_worker, upload_by, work_in}
+use Rattle.upkeep_run.specs.Steps.{WorkerLuck, Stepped, drops_none, fetch_by, first_number, grace_in, held_of, or_short, plan_by, plan_with, raise_by, replace_by, rows_in, stage_by, step_close, step_place, step_raise, step_stage, step_work, step_worker, upload_by, work_in}
 use Rattle.upkeep_run.specs.declared.work.Aim.{Aim}
 use Rattle.upkeep_run.specs.declared.work.Aim.TheVariants.{Deleting, Merging}
 use Rattle.node_run.proofs.CallMoves.{Moves, same, moves_on, appended_moves, asked_and_looked_moves, fetched_moves, file_made_moves}
@@ -54,7 +54,7 @@ choice_moves : {core : Core} (b : Bool) (x y : Stepped) → Moves core x.core �
 choice_moves true x y m n = m
 choice_moves false x y m n = n
 
-module _ (luck : Luck) (log : Log) (core : Core) where
+module _ (luck : WorkerLuck) (log : Log) (core : Core) where
   stage_moves : (held : ℕ → Held) → Moves core (step_stage luck held core).core
   stage_moves held = moves_on (appended_moves luck.world (stage_act [] (held_facts (held 0))) core) (same (staged_same _ held _))
 

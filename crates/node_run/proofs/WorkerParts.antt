@@ -23,7 +23,7 @@ use Rattle.upkeep_run.specs.declared.work.Place.{Place as WorkerPlace}
 use Rattle.node_run.specs.Alone.{WorksAlone}
 use Rattle.node_run.specs.Node.{Node, StepDeleter, StepMerger}
 use Rattle.node_run.specs.Standing.{HoldsOther, PartsStand}
-use Rattle.node_run.specs.Turns.{Luck, calm, full_turn, said_by_worker, with_deleter, with_merger, worker_stepped, worker_turn_by}
+use Rattle.node_run.specs.Turns.{LineLuck, calm, full_turn, said_by_worker, with_deleter, with_merger, worker_stepped, worker_turn_by}
 use Rattle.node_run.proofs.Parts.{staged_of}
 use Rattle.node_run.proofs.WorkerMoves.{worker_moves}
 use Rattle.node_run.proofs.Workers.{idle_other, idle_work_apart, other_of_work, other_of_worker, work_apart_back, worker_goes_on, worker_staged}
@@ -136,7 +136,7 @@ module _ {L : Type 0} (told : L → Option Log) (count : L → ℕ) (since : L �
 -- ---- turns
 
 abbrev pub working_alone : {aim : Aim} {result : Result Worked AllocError} {worker : Worker} {core : Core} {log : Log} {kept : WorkerPlace} {world : Keeping} →
-    WorksAlone aim result worker core log kept world → Luck
+    WorksAlone aim result worker core log kept world → LineLuck
 working_alone s = record { log = calm.log; world = s.luck.world; more = []; ends = []; inner = s.luck.short; early = false; short = false }
 
 pub merger_turns : (node : Node) (kept : WorkerPlace) (world' : Keeping) (result : Result Worked AllocError) → node.down ≡ false →

@@ -11,7 +11,7 @@ use Rattle.index_world.specs.Gate.{raise_call, replace_call, stage_act, stage_ca
 use Rattle.upkeep_run.specs.Outcomes.{UpkeepOutcome}
 use Rattle.upkeep_run.specs.Places.{Held, Place, Work, fetching, held_facts, held_file, idle, staged, uploaded}
 use Rattle.upkeep_run.specs.Standing.{PlaceStands}
-use Rattle.upkeep_run.specs.Steps.{Luck, Stepped, drops_none, fetch_by, first_number, grace_in, held_of, or_short, plan_by, plan_with, raise_by, replace_by, rows_in, stage_by, step_close, step_place, step_raise, step_stage, step_work, step_worker, trouble_outcome, upload_by, work_in}
+use Rattle.upkeep_run.specs.Steps.{WorkerLuck, Stepped, drops_none, fetch_by, first_number, grace_in, held_of, or_short, plan_by, plan_with, raise_by, replace_by, rows_in, stage_by, step_close, step_place, step_raise, step_stage, step_work, step_worker, trouble_outcome, upload_by, work_in}
 use Rattle.upkeep_run.specs.declared.work.Aim.{Aim}
 use Rattle.upkeep_run.specs.declared.work.Aim.TheVariants.{Deleting, Merging}
 use Rattle.upkeep_run.specs.declared.work.Place.{Place as HeldPlace}
@@ -103,7 +103,7 @@ choice_tells : (aim : Aim) (b : Bool) (x y : Stepped) → WorkTells aim x.outcom
 choice_tells aim true x y h k = h
 choice_tells aim false x y h k = k
 
-module _ (luck : Luck) (log : Log) (core : Core) (low : AreLow (length core.history) core) where
+module _ (luck : WorkerLuck) (log : Log) (core : Core) (low : AreLow (length core.history) core) where
   stage_tells : (aim : Aim) (held : ℕ → Held) → WorkTells aim (step_stage luck held core).outcome
   stage_tells aim held =
       let given = stage_call [] (held_facts (held 0)) luck.world core in

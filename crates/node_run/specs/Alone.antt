@@ -8,29 +8,29 @@ use Rattle.index_world.specs.World.{Keeping, WorldStands, GoesOn}
 use Rattle.indexing_run.specs.Outcomes.{IndexerOutcome}
 use Rattle.indexing_run.specs.Places.{Indexer, number_held}
 use Rattle.indexing_run.specs.Standing.{Answers, IndexerStands}
-use Rattle.indexing_run.specs.Steps.{Luck as IndexingLuck, step_indexer}
+use Rattle.indexing_run.specs.Steps.{IndexerLuck as IndexingLuck, step_indexer}
 use Rattle.indexing_run.specs.declared.indexer.Indexer.{Indexer as Reader}
 use Rattle.indexing_run.specs.declared.outcome.IndexerOutcome.{IndexerOutcome as Said}
 use Rattle.root_search.specs.Searching.{SearcherStands, IsAnswer, searched_as}
-use Rattle.root_search.specs.Steps.{Client, Luck, step_client}
+use Rattle.root_search.specs.Steps.{Client, ClientLuck, step_client}
 use Rattle.root_search.specs.declared.outcome.SearchStep.{SearchStep}
 use Rattle.root_search.specs.declared.searcher.Searcher.{Searcher}
 use Rattle.split_collector.specs.Outcomes.{Outcome as CollectorOutcome}
 use Rattle.split_collector.specs.Standing as collects
-use Rattle.split_collector.specs.Steps.{Luck as CollectingLuck, step_collector}
+use Rattle.split_collector.specs.Steps.{CollectorLuck as CollectingLuck, step_collector}
 use Rattle.split_collector.specs.declared.outcome.CollectorOutcome.{CollectorOutcome as Collected}
 use Rattle.upkeep_run.specs.Outcomes.{UpkeepOutcome}
 use Rattle.upkeep_run.specs.Places.{Place as Worker}
 use Rattle.upkeep_run.specs.Places as workers
 use Rattle.upkeep_run.specs.Standing as works
-use Rattle.upkeep_run.specs.Steps.{Luck as WorkingLuck, step_worker}
+use Rattle.upkeep_run.specs.Steps.{WorkerLuck as WorkingLuck, step_worker}
 use Rattle.upkeep_run.specs.declared.outcome.UpkeepOutcome.{UpkeepOutcome as Worked}
 use Rattle.upkeep_run.specs.declared.work.Aim.{Aim}
 use Rattle.upkeep_run.specs.declared.work.Place.{Place as WorkerPlace}
 
 -- it is the client's step with some luck, and what it leaves stands for what that leaves
 pub record SearchesAlone (result : Result SearchStep AllocError) (new : Searcher) (world : Keeping) (client : Client) (core : Core) (log : Log) : Type 0 where
-  pub luck : Luck
+  pub luck : ClientLuck
   pub outcome : Option SearchStep
   pub later : Client
   pub after : Core

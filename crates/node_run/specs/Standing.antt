@@ -25,7 +25,7 @@ use Rattle.node_run.specs.Lines.{outcome_text}
 use Rattle.node_run.specs.Named.{names_of, HasPlaces}
 use Rattle.node_run.specs.Node.{Node, Line, At, Assign, StepIndexer, RestartIndexer, RestartClient, StepMerger, RestartMerger, StepDeleter, RestartDeleter, StepCollector, RestartCollector, RestartNode, Open, StepClient, Outcome}
 use Rattle.node_run.specs.Telling.{LineMayTell}
-use Rattle.node_run.specs.Turns.{Luck, Turn, Turned, turned, full_turn, reader_of}
+use Rattle.node_run.specs.Turns.{LineLuck, Turn, Turned, turned, full_turn, reader_of}
 
 -- no two of them hold one number
 abbrev pub HoldApart : Indexer → Indexer → Type 0
@@ -133,11 +133,11 @@ pub record DoesLine {S L : Type 0} (told : L → Option Log) (count : L → ℕ)
 -- A line was done in full, or, without memory, not at all or as far as it went. What it holds then is dropped later.
 abbrev pub DoesMost : {S L : Type 0} → (L → Option Log) → (L → ℕ) → (L → L → Type 0) → List L → Node → Line → Result OutLine AllocError → DriveNode S L → Type 0
 DoesMost told count since firsts node line (Ok out) new =
-    (luck : Luck) × (outcome : Outcome) × (last : Node) × (full_turn luck node line ≡ turned outcome last)
+    (luck : LineLuck) × (outcome : Outcome) × (last : Node) × (full_turn luck node line ≡ turned outcome last)
     × (out.bytes ≡ outcome_text outcome) × NodeStands told count since firsts new last
 DoesMost told count since firsts node line (Err refused) new =
     NodeStands told count since firsts new node
-    ⊎ ((luck : Luck) × (turn : Turned) × (full_turn luck node line ≡ turn) × NodeStands told count since firsts new turn.node)
+    ⊎ ((luck : LineLuck) × (turn : Turned) × (full_turn luck node line ≡ turn) × NodeStands told count since firsts new turn.node)
 
 -- ---- finish
 

@@ -25,7 +25,7 @@ use Rattle.node_run.specs.Node.{Node, Line, At, Assign, StepIndexer, RestartInde
 -- The fate of one line: its call of a log, its call of the world, a client's or the collector's further calls if it makes some, where the
 -- pages end that the collector lists, and whether memory is missing: in its actor's own step, before the line does anything, or behind all
 -- that it does.
-pub record Luck : Type 0 where
+pub record LineLuck : Type 0 where
   pub log : indexing.LogCall
   pub world : Fate
   pub more : List Fate
@@ -34,7 +34,7 @@ pub record Luck : Type 0 where
   pub early : Bool
   pub short : Bool
 
-abbrev pub calm : Luck
+abbrev pub calm : LineLuck
 calm = record { log = record { fails = false; rises = 0; short = false }; world = calm_fate; more = []; ends = []; inner = false; early = false; short = false }
 
 -- What a line says, and the node behind it. Without memory it says nothing.
@@ -91,10 +91,10 @@ assign_at (uploaded held) i names indexer node = turned (indexer_busy i) node
 abbrev pub assign_turn : ℕ → List (List ℕ) → Indexer → Node → Turned
 assign_turn i names indexer node = assign_at indexer.place i names indexer node
 
-abbrev pub indexing_luck : Luck → indexing.Luck
+abbrev pub indexing_luck : LineLuck → indexing.IndexerLuck
 indexing_luck luck = record { log = luck.log; world = luck.world; short = luck.inner }
 
-abbrev pub searching_luck : Luck → searching.Luck
+abbrev pub searching_luck : LineLuck → searching.ClientLuck
 searching_luck luck = record { world = luck.world; more = luck.more; short = luck.inner }
 
 abbrev pub said_by_indexer : ℕ → Option IndexerOutcome → Option Outcome
@@ -105,12 +105,12 @@ abbrev pub indexer_stepped : ℕ → Node → indexing.Stepped → Turned
 indexer_stepped i node step =
     record { said = said_by_indexer i step.outcome; node = record (with_indexer i step.indexer node) { core = step.core } }
 
-abbrev pub indexer_turn_by : Bool → Luck → ℕ → Node → Turned
+abbrev pub indexer_turn_by : Bool → LineLuck → ℕ → Node → Turned
 indexer_turn_by true luck i node = turned (indexer_down i) node
 indexer_turn_by false luck i node =
     indexer_stepped i node (indexing.step_indexer (indexing_luck luck) node.log (indexer_at node.indexers i) node.core)
 
-abbrev pub indexer_turn : Luck → ℕ → Node → Turned
+abbrev pub indexer_turn : LineLuck → ℕ → Node → Turned
 indexer_turn luck i node = indexer_turn_by node.down luck i node
 
 abbrev pub said_by_client : List ℕ → Option SearchStep → Option Outcome
@@ -122,17 +122,17 @@ client_stepped name node step =
     record { said = said_by_client name step.outcome; node = record (keep_client step.client node) { core = step.core } }
 
 -- a client that a line names is known from then on
-abbrev pub client_turn_by : Bool → Luck → List ℕ → Node → Turned
+abbrev pub client_turn_by : Bool → LineLuck → List ℕ → Node → Turned
 client_turn_by true luck name node = turned (client_down name) (keep_client (client_named name node.clients) node)
 client_turn_by false luck name node =
     client_stepped name node (searching.step_client (searching_luck luck) node.log (client_named name node.clients) node.core)
 
-abbrev pub client_turn : Luck → List ℕ → Node → Turned
+abbrev pub client_turn : LineLuck → List ℕ → Node → Turned
 client_turn luck name node = client_turn_by node.down luck name node
 
 -- ---- a merger, a delete worker, and each worker
 
-abbrev pub working_luck : Luck → working.Luck
+abbrev pub working_luck : LineLuck → working.WorkerLuck
 working_luck luck = record { world = luck.world; short = luck.inner }
 
 abbrev pub said_by_worker : Aim → Option UpkeepOutcome → Option Outcome
@@ -143,25 +143,25 @@ said_by_worker aim (Some outcome) = Some (worker_said aim outcome)
 abbrev pub worker_stepped : Aim → (Worker → Node → Node) → Node → working.Stepped → Turned
 worker_stepped aim keep node step = record { said = said_by_worker aim step.outcome; node = record (keep step.place node) { core = step.core } }
 
-abbrev pub worker_turn_by : Bool → Aim → Worker → (Worker → Node → Node) → Luck → Node → Turned
+abbrev pub worker_turn_by : Bool → Aim → Worker → (Worker → Node → Node) → LineLuck → Node → Turned
 worker_turn_by true aim worker keep luck node = turned (worker_down aim) node
 worker_turn_by false aim worker keep luck node = worker_stepped aim keep node (working.step_worker aim (working_luck luck) node.log worker node.core)
 
 abbrev pub with_merger : Worker → Node → Node
 with_merger worker node = record node { merger = worker }
 
-abbrev pub merger_turn : Luck → Node → Turned
+abbrev pub merger_turn : LineLuck → Node → Turned
 merger_turn luck node = worker_turn_by node.down Merging node.merger with_merger luck node
 
 abbrev pub with_deleter : Worker → Node → Node
 with_deleter worker node = record node { deleter = worker }
 
-abbrev pub deleter_turn : Luck → Node → Turned
+abbrev pub deleter_turn : LineLuck → Node → Turned
 deleter_turn luck node = worker_turn_by node.down Deleting node.deleter with_deleter luck node
 
 -- ---- the collector
 
-abbrev pub collecting_luck : Luck → collecting.Luck
+abbrev pub collecting_luck : LineLuck → collecting.CollectorLuck
 collecting_luck luck = record { world = luck.world; more = luck.more; ends = luck.ends; short = luck.inner }
 
 abbrev pub said_by_collector : Option CollectorOutcome → Option Outcome
@@ -171,11 +171,11 @@ said_by_collector (Some outcome) = Some (collector_said outcome)
 abbrev pub collector_stepped : Node → collecting.Stepped → Turned
 collector_stepped node step = record { said = said_by_collector step.outcome; node = record node { core = step.core } }
 
-abbrev pub collector_turn_by : Bool → Luck → Node → Turned
+abbrev pub collector_turn_by : Bool → LineLuck → Node → Turned
 collector_turn_by true luck node = turned collector_down node
 collector_turn_by false luck node = collector_stepped node (collecting.step_collector (collecting_luck luck) node.core)
 
-abbrev pub collector_turn : Luck → Node → Turned
+abbrev pub collector_turn : LineLuck → Node → Turned
 collector_turn luck node = collector_turn_by node.down luck node
 
 -- ---- a request, and a restart of all
@@ -210,11 +210,11 @@ restart_by (Err calls.no_index) core node = turned (node_failed no_index) (stopp
 abbrev pub restart_given : Node → Gives Unread ⊤ → Turned
 restart_given node given = restart_by given.answer given.core node
 
-abbrev pub restart_turn : Luck → Node → Turned
+abbrev pub restart_turn : LineLuck → Node → Turned
 restart_turn luck node = restart_given node (loaded luck.world node.core)
 
 -- a line that has all the memory that it asks for itself
-abbrev pub full_turn : Luck → Node → Line → Turned
+abbrev pub full_turn : LineLuck → Node → Line → Turned
 full_turn luck node (At moment) = turned (at_said moment) (record node { core = record (node.core) { clock = moment } })
 full_turn luck node (Assign i names) = assign_turn i names (indexer_at node.indexers i) node
 full_turn luck node (StepIndexer i) = indexer_turn luck i node
@@ -260,12 +260,12 @@ abbrev pub or_quiet : Bool → Line → Turned → Turned
 or_quiet true line turn = record { said = None; node = quiet line turn.node }
 or_quiet false line turn = turn
 
-abbrev pub turn_by : Bool → Luck → Node → Line → Turned
+abbrev pub turn_by : Bool → LineLuck → Node → Line → Turned
 turn_by true luck node line = record { said = None; node = quiet line node }
 turn_by false luck node line = or_quiet luck.short line (full_turn luck node line)
 
 -- what a line says and leaves, with this luck
-abbrev pub turn_with : Luck → Node → Line → Turned
+abbrev pub turn_with : LineLuck → Node → Line → Turned
 turn_with luck node line = turn_by luck.early luck node line
 
 -- where no count rises, nothing is late and memory is there
@@ -274,7 +274,7 @@ turn node line = turn_with calm node line
 
 -- whatever lands and fails: the line may say this and leave that node
 pub record Turn (node : Node) (line : Line) (said : Option Outcome) (node' : Node) : Type 0 where
-  pub luck : Luck
+  pub luck : LineLuck
   pub is : turn_with luck node line ≡ record { said = said; node = node' }
 
 -- ---- a schedule
@@ -298,7 +298,7 @@ onto_run outcome ran = record { outcomes = outcome ∷ ran.outcomes; node = ran.
 -- a line and its luck
 pub record Fated : Type 0 where
   pub line : Line
-  pub luck : Luck
+  pub luck : LineLuck
 
 abbrev pub run_on : Option Outcome → Node → (Node → Ran) → Ran
 run_on None node next = record { outcomes = []; node = node }

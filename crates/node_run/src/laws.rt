@@ -52,7 +52,7 @@ pub fn lines_never_lower_the_store_count()
 
 /// Where nothing is late and no count rises, a step of an indexer is that of a calm luck, or finds no memory.
 pub fn a_still_count_makes_an_indexer_step_calm()
-    ensures { (luck : indexing.Luck) (log : Log) (indexer : Indexer) (core : Core) → IsStill core → indexer.log_faults < last_count →
+    ensures { (luck : indexing.IndexerLuck) (log : Log) (indexer : Indexer) (core : Core) → IsStill core → indexer.log_faults < last_count →
         (step_indexer luck log indexer core).core.store_faults ≡ core.store_faults →
         (step_indexer luck log indexer core).indexer.log_faults ≡ indexer.log_faults →
         ((step_indexer luck log indexer core).outcome ≡ None)
@@ -61,7 +61,7 @@ pub fn a_still_count_makes_an_indexer_step_calm()
 
 /// So is a step of a client.
 pub fn a_still_count_makes_a_search_step_calm()
-    ensures { (luck : searching.Luck) (log : Log) (client : Client) (core : Core) → IsStill core →
+    ensures { (luck : searching.ClientLuck) (log : Log) (client : Client) (core : Core) → IsStill core →
         (step_client luck log client core).core.store_faults ≡ core.store_faults →
         ((step_client luck log client core).outcome ≡ None)
         ⊎ (step_client luck log client core ≡ step_client (searching_luck calm) log client core) }
@@ -69,7 +69,7 @@ pub fn a_still_count_makes_a_search_step_calm()
 
 /// So is a step of a worker.
 pub fn a_still_count_makes_a_worker_step_calm()
-    ensures { (aim : Aim) (luck : working.Luck) (log : Log) (worker : Worker) (core : Core) → IsStill core →
+    ensures { (aim : Aim) (luck : working.WorkerLuck) (log : Log) (worker : Worker) (core : Core) → IsStill core →
         (step_worker aim luck log worker core).core.store_faults ≡ core.store_faults →
         ((step_worker aim luck log worker core).outcome ≡ None)
         ⊎ (step_worker aim luck log worker core ≡ step_worker aim (working_luck calm) log worker core) }
@@ -77,7 +77,7 @@ pub fn a_still_count_makes_a_worker_step_calm()
 
 /// So is a step of the collector, wherever its pages end, over numbers that a key can spell.
 pub fn a_still_count_makes_a_collector_step_calm()
-    ensures { (luck : collecting.Luck) (core : Core) → IsStill core → last_number (history (step_collector luck core).core.history) < 2 ^ 64 →
+    ensures { (luck : collecting.CollectorLuck) (core : Core) → IsStill core → last_number (history (step_collector luck core).core.history) < 2 ^ 64 →
         (step_collector luck core).core.store_faults ≡ core.store_faults →
         ((step_collector luck core).outcome ≡ None)
         ⊎ (step_collector luck core ≡ step_collector (collecting_luck calm) core) }

@@ -4,7 +4,7 @@ use Rattle.std.specs.Ordering.{nat_cmp, eq_by_cmp, is_eq}
 use Rattle.std.specs.Cmp.Lexicographic.{slice_cmp}
 use Rattle.std.proofs.lemmas.List.{get_or_default, at_drop_more, take_more}
 use Rattle.object_store.specs.declared.plan.Landing.{Landing}
-use Rattle.object_store.specs.Plan.{landing_of_key, without_key, IsFirstOf}
+use Rattle.object_store.specs.FaultPlan.{landing_of_key, without_key, IsFirstOf}
 use Rattle.object_store.proofs.Entries.{ties_itself, not_tied}
 
 abbrev KeyEntry : Type 0

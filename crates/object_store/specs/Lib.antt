@@ -5,6 +5,6 @@ pub mod Entries
 pub mod Shelved
 pub mod Kept
 pub mod Late
-pub mod Plan
+pub mod FaultPlan
 pub mod MemoryStore
 pub mod SteadyStore

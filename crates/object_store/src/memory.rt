@@ -3,11 +3,11 @@ ghost use Rattle.std.specs.Option.{option_copied};
 ghost use Rattle.std.specs.FinMap as finmap;
 ghost use Rattle.byte_fields.specs.Causes.{HasCause, following};
 ghost use Rattle.object_store.specs.Store.{AfterLanding, Creates, Gets, Deletes, Lists, given_more};
-ghost use Rattle.object_store.specs.Plan.{landing_of_call, landing_of_key};
+ghost use Rattle.object_store.specs.FaultPlan.{landing_of_call, landing_of_key};
 
 use crate::given::given_behind;
 use crate::kept::Kept;
-use crate::plan::{Landing, Plan};
+use crate::plan::{Landing, FaultPlan};
 use crate::{CreateError, GetError, Key, Keys, ListError, ObjectStore, Piece};
 use byte_fields::Failed;
 use std::alloc::{AllocError, Global};
@@ -16,7 +16,7 @@ use std::alloc::{AllocError, Global};
 #[derive(Drop)]
 pub struct MemoryStore {
     kept: Kept,
-    plan: Plan,
+    plan: FaultPlan,
     // How many bytes it gave.
     given: u64,
 }
@@ -35,7 +35,7 @@ impl MemoryStore {
     {
         MemoryStore {
             kept: Kept::vacant(alloc),
-            plan: Plan::vacant(alloc),
+            plan: FaultPlan::vacant(alloc),
             given: 0,
         }
     }
@@ -70,7 +70,7 @@ impl MemoryStore {
 // How a call of a store in memory goes.
 impl MemoryStore {
     ghost use Rattle.object_store.specs.Store.{HasLanded, without_object};
-    ghost use Rattle.object_store.specs.Plan.{FailsWhere, keys_left};
+    ghost use Rattle.object_store.specs.FaultPlan.{FailsWhere, keys_left};
     ghost use Rattle.object_store.specs.MemoryStore.{state, held};
     ghost use Rattle.object_store.specs.Late.{begun, fallen, created, deleted};
 
@@ -169,7 +169,7 @@ impl MemoryStore {
 impl ObjectStore for MemoryStore {
     ghost use Rattle.object_store.specs.MemoryStore.{state, held};
     ghost use Rattle.object_store.specs.Late.{begun, created, deleted};
-    ghost use Rattle.object_store.specs.Plan.{FailsWhere, keys_left, landing_of_create};
+    ghost use Rattle.object_store.specs.FaultPlan.{FailsWhere, keys_left, landing_of_create};
 
     ghost told = { λ s. Some (state s) };
 

@@ -1,7 +1,7 @@
 // Which calls of a store in memory fail, and how many did.
 ghost use Rattle.std.specs.Prelude.{◌≡◌, ◌≤◌, ◌+◌, ◌∷◌, ◌++◌, [], OnOk, OnErr, IfSome, IfNone};
 ghost use Rattle.byte_fields.specs.Causes.{Rose, following};
-ghost use Rattle.object_store.specs.Plan.{landing_of_call, landing_of_key, without_key, IsFirstOf, IsNowhere};
+ghost use Rattle.object_store.specs.FaultPlan.{landing_of_call, landing_of_key, without_key, IsFirstOf, IsNowhere};
 
 use crate::Key;
 use std::alloc::{AllocError, Global};
@@ -18,7 +18,7 @@ pub enum Landing {
 
 /// The calls that are to fail, by their numbers and by the keys that they create.
 #[derive(Drop)]
-pub struct Plan {
+pub struct FaultPlan {
     pub made: u64,
     pub faults: u64,
     pub calls: Vec<(u64, Landing)>,
@@ -50,15 +50,15 @@ fn place_of_key(key: &Key, keys: &[(Key, Landing)]) -> Option<usize>
     None
 }
 
-impl Plan {
+impl FaultPlan {
     /// No call is to fail.
-    pub fn vacant(alloc: Global) -> Plan
+    pub fn vacant(alloc: Global) -> FaultPlan
         ensures made { result.made ≡ 0 }
         ensures faults { result.faults ≡ 0 }
         ensures calls { result.calls.items ≡ [] }
         ensures keys { result.keys.items ≡ [] }
     {
-        Plan {
+        FaultPlan {
             made: 0,
             faults: 0,
             calls: Vec::new(alloc),

@@ -5,8 +5,8 @@ use Rattle.std.proofs.lemmas.Bool.{cases_lt}
 use Rattle.std.proofs.lemmas.List.{drop_all}
 use Rattle.query_reader.proofs.Steps.{steps, goes, ends, begins}
 use Rattle.query_reader.specs.Kinds.{kind_of, said, ends_word}
-use Rattle.query_reader.specs.declared.fault.ReadError.{ReadError}
-use Rattle.query_reader.specs.declared.fault.ReadError.TheVariants as errors
+use Rattle.query_reader.specs.declared.fault.QuerySyntaxError.{QuerySyntaxError}
+use Rattle.query_reader.specs.declared.fault.QuerySyntaxError.TheVariants as errors
 use Rattle.query_reader.specs.Tree.{Tree, Trees, Group, view, no_trees, behind, trees_after, and_tree, or_tree}
 use Rattle.query_reader.specs.Machine.{run, state, State, Frame, Go, Stuck, Deep, go_on, step, begin, from_operand, word, First, Want, After, with_operand, after_leaf, after_not}
 use Rattle.query_reader.specs.Reading.{IsOperatorEnd, Rest, Reads}
@@ -25,32 +25,32 @@ use Rattle.query_reader.specs.declared.tree.Raw.{Raw}
 use Rattle.query_reader.proofs.Rows.{count, count_after}
 
 -- what a call failed with, seen from an earlier place
-pub fails_more : (e : ReadError) (rest rest' : Rest) (g : Frame → Frame) → ((f : Frame) (fs : List Frame) → rest' f fs ≡ rest (g f) fs) → Fails rest e → Fails rest' e
+pub fails_more : (e : QuerySyntaxError) (rest rest' : Rest) (g : Frame → Frame) → ((f : Frame) (fs : List Frame) → rest' f fs ≡ rest (g f) fs) → Fails rest e → Fails rest' e
 fails_more errors.Memory rest rest' g h p = p
 fails_more (errors.Refused x) rest rest' g h p = λ f fs. h f fs ∙ p (g f) fs
 
-pub reads_sunk : (text : List ℕ) (r : Result Operand ReadError) (rest rest' : Rest) (depth : ℕ) → ((f : Frame) (fs : List Frame) → rest' f fs ≡ rest (sunk depth f) fs) → Reads text rest r → Reads text rest' r
+pub reads_sunk : (text : List ℕ) (r : Result Operand QuerySyntaxError) (rest rest' : Rest) (depth : ℕ) → ((f : Frame) (fs : List Frame) → rest' f fs ≡ rest (sunk depth f) fs) → Reads text rest r → Reads text rest' r
 reads_sunk text (Ok o) rest rest' depth h p = λ f fs. h f fs ∙ p (sunk depth f) fs
 reads_sunk text (Err errors.Memory) rest rest' depth h p = p
 reads_sunk text (Err (errors.Refused x)) rest rest' depth h p = λ f fs. h f fs ∙ p (sunk depth f) fs
 
-pub fails_in_group : (text : List ℕ) (depth : ℕ) (e : ReadError) (rest : List Frame → Result Tree Fault) (rest' : Rest) (g : Frame → List Frame → List Frame)
+pub fails_in_group : (text : List ℕ) (depth : ℕ) (e : QuerySyntaxError) (rest : List Frame → Result Tree Fault) (rest' : Rest) (g : Frame → List Frame → List Frame)
     → ((f : Frame) (fs : List Frame) → rest' f fs ≡ rest (g f fs)) → ReadsGroup text depth rest (Err e) → Fails rest' e
 fails_in_group text depth errors.Memory rest rest' g h p = p
 fails_in_group text depth (errors.Refused x) rest rest' g h p = λ f fs. h f fs ∙ p (g f fs)
 
-pub group_fails : (text : List ℕ) (depth : ℕ) (e : ReadError) (rest : Rest) (rest' : List Frame → Result Tree Fault) (f : Frame)
+pub group_fails : (text : List ℕ) (depth : ℕ) (e : QuerySyntaxError) (rest : Rest) (rest' : List Frame → Result Tree Fault) (f : Frame)
     → ((fs : List Frame) → rest' fs ≡ rest f fs) → Fails rest e → ReadsGroup text depth rest' (Err e)
 group_fails text depth errors.Memory rest rest' f h p = p
 group_fails text depth (errors.Refused x) rest rest' f h p = λ fs. h fs ∙ p f fs
 
 -- what stands between two brackets fails where its operands do
-pub group_faults : (text : List ℕ) (depth : ℕ) (e : ReadError) (rest rest' : List Frame → Result Tree Fault)
+pub group_faults : (text : List ℕ) (depth : ℕ) (e : QuerySyntaxError) (rest rest' : List Frame → Result Tree Fault)
     → ((fs : List Frame) → rest' fs ≡ rest fs) → OnFault e (λ fault. (fs : List Frame) → rest fs ≡ Err fault) → ReadsGroup text depth rest' (Err e)
 group_faults text depth errors.Memory rest rest' h p = p
 group_faults text depth (errors.Refused x) rest rest' h p = λ fs. h fs ∙ p fs
 
-pub operand_faults : (e : ReadError) (rest : Rest) (rest' : List Frame → Result Tree Fault) (f : Frame)
+pub operand_faults : (e : QuerySyntaxError) (rest : Rest) (rest' : List Frame → Result Tree Fault) (f : Frame)
     → ((fs : List Frame) → rest' fs ≡ rest f fs) → Fails rest e → OnFault e (λ fault. (fs : List Frame) → rest' fs ≡ Err fault)
 operand_faults errors.Memory rest rest' f h p = p
 operand_faults (errors.Refused x) rest rest' f h p = λ fs. h fs ∙ p f fs

@@ -5,8 +5,8 @@ use Rattle.std.proofs.lemmas.Bool.{cases_lt}
 use Rattle.std.proofs.lemmas.List.{drop_all}
 use Rattle.query_reader.proofs.Steps.{steps, goes, ends, begins}
 use Rattle.query_reader.specs.Kinds.{kind_of, said, names_set, ends_word, begins_word, is_escape_kind}
-use Rattle.query_reader.specs.declared.fault.ReadError.{ReadError}
-use Rattle.query_reader.specs.declared.fault.ReadError.TheVariants as errors
+use Rattle.query_reader.specs.declared.fault.QuerySyntaxError.{QuerySyntaxError}
+use Rattle.query_reader.specs.declared.fault.QuerySyntaxError.TheVariants as errors
 use Rattle.query_reader.specs.Machine.{run, state, Frame, Mode, Go, Stuck, go_on, step, finish, begin, from_operand, word, begun_word, Role, First, Joined, Fielded, InASet, span, Want, After, Spaced, with_operand, with_or, leaf, after_leaf, end_word, end_field, end_prefix, end_plain, behind_operator, behind_in, begin_special, finish_word, finish_plain, Head, Behind, step_after}
 use Rattle.query_reader.specs.Reading.{IsOperatorEnd, IsSetOpening, role_for, special_rest, Rest, Reads}
 use Rattle.query_reader.specs.declared.reader.Operand.{Operand}
@@ -284,7 +284,7 @@ pub escaped_end : (text : List ℕ) (to : ℕ) (role : Role) (from : ℕ) (bytes
 escaped_end text to role from bytes p b f fs x y = stuck_at text to _ f fs (λ l. absurd (let z : true ≡ false = sym y ∙ x l in cc)) (λ l. rw y refl)
 
 -- what a call read, seen from an earlier place
-pub reads_from : (text : List ℕ) (r : Result Operand ReadError) (rest rest' : Rest) → ((f : Frame) (fs : List Frame) → rest' f fs ≡ rest f fs) → Reads text rest r → Reads text rest' r
+pub reads_from : (text : List ℕ) (r : Result Operand QuerySyntaxError) (rest rest' : Rest) → ((f : Frame) (fs : List Frame) → rest' f fs ≡ rest f fs) → Reads text rest r → Reads text rest' r
 reads_from text (Ok o) rest rest' g h = λ f fs. g f fs ∙ h f fs
 reads_from text (Err errors.Memory) rest rest' g h = h
 reads_from text (Err (errors.Refused x)) rest rest' g h = λ f fs. g f fs ∙ h f fs

@@ -10,8 +10,8 @@ use Rattle.query_reader.specs.declared.kind.Said.{Said}
 use Rattle.query_reader.specs.declared.scan.Scan.{Scan}
 use Rattle.query_reader.specs.declared.tree.Span.{Span}
 use Rattle.query_reader.specs.declared.reader.Operand.{Operand}
-use Rattle.query_reader.specs.declared.fault.ReadError.{ReadError}
-use Rattle.query_reader.specs.declared.fault.ReadError.TheVariants as errors
+use Rattle.query_reader.specs.declared.fault.QuerySyntaxError.{QuerySyntaxError}
+use Rattle.query_reader.specs.declared.fault.QuerySyntaxError.TheVariants as errors
 use Rattle.query_reader.specs.declared.tree.Raw.{Raw}
 use Rattle.query_reader.specs.declared.fault.Fault.{Fault}
 use Rattle.query_reader.specs.declared.reader.Next.{Next}
@@ -98,11 +98,11 @@ behind_operand text o f fs = run o.end (state (After o.free) (with_operand f (vi
 abbrev pub Arrives : List ℕ → Rest → Operand → Type 0
 Arrives text rest o = (f : Frame) (fs : List Frame) → rest f fs ≡ behind_operand text o f fs
 
-abbrev pub Fails : Rest → ReadError → Type 0
+abbrev pub Fails : Rest → QuerySyntaxError → Type 0
 Fails rest errors.Memory = Unit {0}
 Fails rest (errors.Refused fault) = (f : Frame) (fs : List Frame) → rest f fs ≡ Err fault
 
-abbrev pub Reads : List ℕ → Rest → Result Operand ReadError → Type 0
+abbrev pub Reads : List ℕ → Rest → Result Operand QuerySyntaxError → Type 0
 Reads text rest (Ok o) = Arrives text rest o
 Reads text rest (Err e) = Fails rest e
 
@@ -127,13 +127,13 @@ group_rest text depth from fs = run from (state (Want true) (fresh depth) fs) (d
 abbrev pub group_end : List ℕ → ℕ → Operand → List Frame → Result Tree Fault
 group_end text depth o fs = run o.end (state (After true) (with_operand (fresh depth) (view o.raw)) fs) (drop o.end text)
 
-abbrev pub ReadsGroup : List ℕ → ℕ → (List Frame → Result Tree Fault) → Result Operand ReadError → Type 0
+abbrev pub ReadsGroup : List ℕ → ℕ → (List Frame → Result Tree Fault) → Result Operand QuerySyntaxError → Type 0
 ReadsGroup text depth rest (Ok o) = (fs : List Frame) → rest fs ≡ group_end text depth o fs
 ReadsGroup text depth rest (Err errors.Memory) = Unit {0}
 ReadsGroup text depth rest (Err (errors.Refused fault)) = (fs : List Frame) → rest fs ≡ Err fault
 
 -- a fact of the fault, where the call did not fail for memory
-abbrev pub OnFault : ReadError → (Fault → Type 0) → Type 0
+abbrev pub OnFault : QuerySyntaxError → (Fault → Type 0) → Type 0
 OnFault errors.Memory P = Unit {0}
 OnFault (errors.Refused fault) P = P fault
 

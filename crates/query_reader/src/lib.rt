@@ -15,7 +15,7 @@ mod texts;
 mod tree;
 mod unmapped;
 
-pub use fault::{Fault, ReadError};
+pub use fault::{Fault, QuerySyntaxError};
 pub use numbers::FieldNumbers;
 pub use printer::print_query;
 pub use refusal::QueryError;

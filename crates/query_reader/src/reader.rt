@@ -12,7 +12,7 @@ ghost use Rattle.query_reader.specs.Asking.{Within};
 ghost use Rattle.query_reader.specs.Machine.{member};
 ghost use Rattle.query_reader.specs.declared.special.Member.{Member};
 
-use crate::fault::{Fault, ReadError};
+use crate::fault::{Fault, QuerySyntaxError};
 use crate::kind::{Kind, Said, byte_kind, is_in, what_is_said};
 use crate::scan::{Scan, is_at, quote_end, scan_word, skip_blanks, stands};
 use crate::special::{Member, RangeMode, RangeStep, Ranged, Spot, end_range, step_range};
@@ -109,13 +109,13 @@ fn is_free(free: bool, at: usize, place: usize) -> bool
 }
 
 /// A quote whose first byte stands at `from`, behind its quotation mark.
-fn quoted(text: &[u8], field: Option<Span>, from: usize) -> Result<Operand, ReadError>
+fn quoted(text: &[u8], field: Option<Span>, from: usize) -> Result<Operand, QuerySyntaxError>
     requires { from ≤ length text.now }
     ensures end { IfOk result (λ o. (from < o.end) × (o.end ≤ length text.now)) }
     ensures read { Reads text.now (quote_rest text.now (role_for field) from) result }
 {
     match quote_end(text, from) {
-        Err(at) => Err(ReadError::Refused(Fault::Syntax { at })),
+        Err(at) => Err(QuerySyntaxError::Refused(Fault::Syntax { at })),
         Ok(to) => Ok(Operand {
             raw: Raw::Leaf(Clause {
                 field,
@@ -181,7 +181,7 @@ fn ranged(
     from: usize,
     first: RangeMode,
     start: usize,
-) -> Result<Operand, ReadError>
+) -> Result<Operand, QuerySyntaxError>
     requires behind { from < start }
     requires within { start ≤ length text.now }
     ensures end { IfOk result (λ o. (from < o.end) × (o.end ≤ length text.now)) }
@@ -195,13 +195,13 @@ fn ranged(
             RangeStep::Done(range) => return Ok(edged(field, from, range, at + 1, true)),
             RangeStep::Ended(range) => return Ok(edged(field, from, range, at + 1, false)),
             RangeStep::Before(range) => return Ok(edged(field, from, range, at, false)),
-            RangeStep::Refused => return Err(ReadError::Refused(Fault::Syntax { at })),
+            RangeStep::Refused => return Err(QuerySyntaxError::Refused(Fault::Syntax { at })),
         }
         at += 1;
     }
     match end_range(mode, at) {
         Some(range) => Ok(edged(field, from, range, at, false)),
-        None => Err(ReadError::Refused(Fault::Syntax { at })),
+        None => Err(QuerySyntaxError::Refused(Fault::Syntax { at })),
     }
 }
 
@@ -212,7 +212,7 @@ fn set(
     field: Span,
     from: usize,
     start: usize,
-) -> Result<Operand, ReadError>
+) -> Result<Operand, QuerySyntaxError>
     requires behind { from < start }
     requires within { start ≤ length text.now }
     ensures end { IfOk result (λ o. (from < o.end) × (o.end ≤ length text.now)) }
@@ -223,7 +223,7 @@ fn set(
     'members: loop {
         let place = skip_blanks(text, at);
         if place >= text.len() {
-            return Err(ReadError::Refused(Fault::Syntax { at: place }));
+            return Err(QuerySyntaxError::Refused(Fault::Syntax { at: place }));
         }
         match byte_kind(text[place]) {
             Kind::SquareClose => {
@@ -237,7 +237,7 @@ fn set(
                 });
             }
             Kind::Quote => match quote_end(text, place + 1) {
-                Err(fault) => return Err(ReadError::Refused(Fault::Syntax { at: fault })),
+                Err(fault) => return Err(QuerySyntaxError::Refused(Fault::Syntax { at: fault })),
                 Ok(to) => {
                     members.push(Member {
                         place: Span {
@@ -250,7 +250,7 @@ fn set(
                 }
             },
             Kind::Plain | Kind::Angle | Kind::Escape => match set_word(text, place) {
-                Err(fault) => return Err(ReadError::Refused(Fault::Syntax { at: fault })),
+                Err(fault) => return Err(QuerySyntaxError::Refused(Fault::Syntax { at: fault })),
                 Ok(to) => {
                     members.push(Member {
                         place: Span { from: place, to },
@@ -259,7 +259,7 @@ fn set(
                     at = to;
                 }
             },
-            _ => return Err(ReadError::Refused(Fault::Syntax { at: place })),
+            _ => return Err(QuerySyntaxError::Refused(Fault::Syntax { at: place })),
         }
     }
 }
@@ -290,7 +290,7 @@ fn behind_in(
     field: Span,
     from: usize,
     at: usize,
-) -> Result<Operand, ReadError>
+) -> Result<Operand, QuerySyntaxError>
     requires behind { from < at }
     requires within { at ≤ length text.now }
     ensures end { IfOk result (λ o. (from < o.end) × (o.end ≤ length text.now)) }
@@ -300,12 +300,12 @@ fn behind_in(
     if is_at(text, place, Kind::SquareOpen) {
         set(alloc, text, field, from, place + 1)
     } else {
-        Err(ReadError::Refused(Fault::Syntax { at: place }))
+        Err(QuerySyntaxError::Refused(Fault::Syntax { at: place }))
     }
 }
 
 /// A question for any value, a range or a comparison that begins at the place.
-fn special(text: &[u8], field: Span, at: usize) -> Result<Operand, ReadError>
+fn special(text: &[u8], field: Span, at: usize) -> Result<Operand, QuerySyntaxError>
     requires { at < length text.now }
     ensures end { IfOk result (λ o. (at < o.end) × (o.end ≤ length text.now)) }
     ensures read { Reads text.now (special_rest text.now field at) result }
@@ -322,19 +322,19 @@ fn special(text: &[u8], field: Span, at: usize) -> Result<Operand, ReadError>
         Kind::SquareOpen => ranged(text, field, at, RangeMode::Wanted(Spot::Low(true)), at + 1),
         Kind::CurlyOpen => ranged(text, field, at, RangeMode::Wanted(Spot::Low(false)), at + 1),
         Kind::Angle => ranged(text, field, at, RangeMode::Sign(text[at] == b'>'), at + 1),
-        _ => Err(ReadError::Refused(Fault::Syntax { at })),
+        _ => Err(QuerySyntaxError::Refused(Fault::Syntax { at })),
     }
 }
 
 /// What stands behind a field, its colon and white space.
-fn spaced(alloc: Global, text: &[u8], field: Span, from: usize) -> Result<Operand, ReadError>
+fn spaced(alloc: Global, text: &[u8], field: Span, from: usize) -> Result<Operand, QuerySyntaxError>
     requires { from ≤ length text.now }
     ensures end { IfOk result (λ o. (from < o.end) × (o.end ≤ length text.now)) }
     ensures read { Reads text.now (spaced_rest text.now field from) result }
 {
     let at = skip_blanks(text, from);
     if at >= text.len() {
-        return Err(ReadError::Refused(Fault::Syntax { at }));
+        return Err(QuerySyntaxError::Refused(Fault::Syntax { at }));
     }
     if !stands(text, at, Kind::Plain) {
         return special(text, field, at);
@@ -342,35 +342,35 @@ fn spaced(alloc: Global, text: &[u8], field: Span, from: usize) -> Result<Operan
     if text[at] == b'I' {
         letter_n(alloc, text, field, at)
     } else {
-        Err(ReadError::Refused(Fault::Syntax { at }))
+        Err(QuerySyntaxError::Refused(Fault::Syntax { at }))
     }
 }
 
 /// What stands behind the `I` of an `IN`.
-fn letter_n(alloc: Global, text: &[u8], field: Span, from: usize) -> Result<Operand, ReadError>
+fn letter_n(alloc: Global, text: &[u8], field: Span, from: usize) -> Result<Operand, QuerySyntaxError>
     requires { from < length text.now }
     ensures end { IfOk result (λ o. (from < o.end) × (o.end ≤ length text.now)) }
     ensures read { Reads text.now (letter_rest text.now field from (from + 1)) result }
 {
     let at = from + 1;
     if at >= text.len() {
-        return Err(ReadError::Refused(Fault::Syntax { at }));
+        return Err(QuerySyntaxError::Refused(Fault::Syntax { at }));
     }
     if text[at] == b'N' {
         behind_in(alloc, text, field, from, at + 1)
     } else {
-        Err(ReadError::Refused(Fault::Syntax { at }))
+        Err(QuerySyntaxError::Refused(Fault::Syntax { at }))
     }
 }
 
 /// What is asked of a field, behind its colon.
-fn fielded(alloc: Global, text: &[u8], field: Span, at: usize) -> Result<Operand, ReadError>
+fn fielded(alloc: Global, text: &[u8], field: Span, at: usize) -> Result<Operand, QuerySyntaxError>
     requires { at ≤ length text.now }
     ensures end { IfOk result (λ o. (at < o.end) × (o.end ≤ length text.now)) }
     ensures read { Reads text.now (behind_rest text.now field at) result }
 {
     if at >= text.len() {
-        return Err(ReadError::Refused(Fault::Syntax { at }));
+        return Err(QuerySyntaxError::Refused(Fault::Syntax { at }));
     }
     match byte_kind(text[at]) {
         Kind::Quote => quoted(text, Some(field), at + 1),
@@ -380,7 +380,7 @@ fn fielded(alloc: Global, text: &[u8], field: Span, at: usize) -> Result<Operand
     }
 }
 
-fn fielded_word(alloc: Global, text: &[u8], field: Span, at: usize) -> Result<Operand, ReadError>
+fn fielded_word(alloc: Global, text: &[u8], field: Span, at: usize) -> Result<Operand, QuerySyntaxError>
     requires within { at < length text.now }
     requires begins { (kind_of (slice_index text.now at) ≡ Plain) ⊎ (kind_of (slice_index text.now at) ≡ Escape) }
     ensures end { IfOk result (λ o. (at < o.end) × (o.end ≤ length text.now)) }
@@ -388,11 +388,11 @@ fn fielded_word(alloc: Global, text: &[u8], field: Span, at: usize) -> Result<Op
 {
     let scan = scan_word(text, at);
     if scan.escaped {
-        return Err(ReadError::Refused(Fault::Syntax { at: scan.to }));
+        return Err(QuerySyntaxError::Refused(Fault::Syntax { at: scan.to }));
     }
     match what_is_said(scan.plain, &text[at..scan.to]) {
         Said::SaidWord => said_word(alloc, text, field, at, scan),
-        _ => Err(ReadError::Refused(Fault::Syntax { at: scan.to })),
+        _ => Err(QuerySyntaxError::Refused(Fault::Syntax { at: scan.to })),
     }
 }
 
@@ -403,14 +403,14 @@ fn said_word(
     field: Span,
     from: usize,
     scan: Scan,
-) -> Result<Operand, ReadError>
+) -> Result<Operand, QuerySyntaxError>
     requires scanned { IsScanned text.now from scan }
     requires said { word_said text.now from scan ≡ SaidWord }
     ensures end { IfOk result (λ o. (from < o.end) × (o.end ≤ length text.now)) }
     ensures read { Reads text.now (word_rest text.now (Fielded field) from scan) result }
 {
     if is_at(text, scan.to, Kind::Colon) {
-        return Err(ReadError::Refused(Fault::Syntax { at: scan.to }));
+        return Err(QuerySyntaxError::Refused(Fault::Syntax { at: scan.to }));
     }
     if is_in(&text[from..scan.to]) && opens_set(text, scan.to) {
         return behind_in(alloc, text, field, from, scan.to);
@@ -426,7 +426,7 @@ fn opens_set(text: &[u8], at: usize) -> bool
 }
 
 /// A word that is no operator, or a field with what is asked of it.
-fn named(alloc: Global, text: &[u8], from: usize, scan: Scan) -> Result<Operand, ReadError>
+fn named(alloc: Global, text: &[u8], from: usize, scan: Scan) -> Result<Operand, QuerySyntaxError>
     requires scanned { IsScanned text.now from scan }
     requires said { word_said text.now from scan ≡ SaidWord }
     ensures end { IfOk result (λ o. (from < o.end) × (o.end ≤ length text.now)) }
@@ -441,14 +441,14 @@ fn named(alloc: Global, text: &[u8], from: usize, scan: Scan) -> Result<Operand,
 
 /// The operand that begins at the place, `depth` brackets, `NOT`s and signs deep.
 #[cycle(reader)]
-fn operand_at(alloc: Global, text: &[u8], at: usize, depth: usize) -> Result<Operand, ReadError>
+fn operand_at(alloc: Global, text: &[u8], at: usize, depth: usize) -> Result<Operand, QuerySyntaxError>
     requires within { at ≤ length text.now }
     requires depth { depth ≤ 64 }
     ensures end { IfOk result (λ o. (at < o.end) × (o.end ≤ length text.now)) }
     ensures read { Reads text.now (operand_rest text.now depth at) result }
 {
     if at >= text.len() {
-        return Err(ReadError::Refused(Fault::Syntax { at }));
+        return Err(QuerySyntaxError::Refused(Fault::Syntax { at }));
     }
     match byte_kind(text[at]) {
         Kind::Plain | Kind::Angle | Kind::Escape => word_operand(alloc, text, at, depth),
@@ -466,17 +466,17 @@ fn operand_at(alloc: Global, text: &[u8], at: usize, depth: usize) -> Result<Ope
             if depth < LIMIT {
                 operand_at(alloc, text, at + 1, depth + 1)
             } else {
-                Err(ReadError::Refused(Fault::TooDeep { at }))
+                Err(QuerySyntaxError::Refused(Fault::TooDeep { at }))
             }
         }
         Kind::Minus => {
             if depth < LIMIT {
                 negated_operand(alloc, text, at + 1, depth + 1)
             } else {
-                Err(ReadError::Refused(Fault::TooDeep { at }))
+                Err(QuerySyntaxError::Refused(Fault::TooDeep { at }))
             }
         }
-        _ => Err(ReadError::Refused(Fault::Syntax { at })),
+        _ => Err(QuerySyntaxError::Refused(Fault::Syntax { at })),
     }
 }
 
@@ -487,7 +487,7 @@ fn negated_operand(
     text: &[u8],
     at: usize,
     depth: usize,
-) -> Result<Operand, ReadError>
+) -> Result<Operand, QuerySyntaxError>
     requires within { at ≤ length text.now }
     requires depth { depth ≤ 64 }
     ensures end { IfOk result (λ o. (at < o.end) × (o.end ≤ length text.now)) }
@@ -504,7 +504,7 @@ fn negated_operand(
 
 /// An operand whose first byte begins a word.
 #[cycle(reader)]
-fn word_operand(alloc: Global, text: &[u8], at: usize, depth: usize) -> Result<Operand, ReadError>
+fn word_operand(alloc: Global, text: &[u8], at: usize, depth: usize) -> Result<Operand, QuerySyntaxError>
     requires within { at < length text.now }
     requires begins { begins_word (kind_of (slice_index text.now at)) ≡ true }
     requires depth { depth ≤ 64 }
@@ -513,12 +513,12 @@ fn word_operand(alloc: Global, text: &[u8], at: usize, depth: usize) -> Result<O
 {
     let scan = scan_word(text, at);
     if scan.escaped {
-        return Err(ReadError::Refused(Fault::Syntax { at: scan.to }));
+        return Err(QuerySyntaxError::Refused(Fault::Syntax { at: scan.to }));
     }
     match what_is_said(scan.plain, &text[at..scan.to]) {
         Said::SaidWord => named(alloc, text, at, scan),
         Said::SaidNot => negation(alloc, text, at, scan, depth),
-        _ => Err(ReadError::Refused(Fault::Syntax { at: scan.to })),
+        _ => Err(QuerySyntaxError::Refused(Fault::Syntax { at: scan.to })),
     }
 }
 
@@ -530,7 +530,7 @@ fn negation(
     from: usize,
     scan: Scan,
     depth: usize,
-) -> Result<Operand, ReadError>
+) -> Result<Operand, QuerySyntaxError>
     requires scanned { IsScanned text.now from scan }
     requires said { word_said text.now from scan ≡ SaidNot }
     requires depth { depth ≤ 64 }
@@ -538,25 +538,25 @@ fn negation(
     ensures read { Reads text.now (sunk_word_rest text.now depth from scan) result }
 {
     if depth >= LIMIT {
-        return Err(ReadError::Refused(Fault::TooDeep { at: from }));
+        return Err(QuerySyntaxError::Refused(Fault::TooDeep { at: from }));
     }
     if ends_operator(text, scan.to) {
         negated_operand(alloc, text, skip_blanks(text, scan.to), depth + 1)
     } else {
-        Err(ReadError::Refused(Fault::Syntax { at: scan.to }))
+        Err(QuerySyntaxError::Refused(Fault::Syntax { at: scan.to }))
     }
 }
 
 /// The bracket that opens at the place.
 #[cycle(reader)]
-fn bracket(alloc: Global, text: &[u8], at: usize, depth: usize) -> Result<Operand, ReadError>
+fn bracket(alloc: Global, text: &[u8], at: usize, depth: usize) -> Result<Operand, QuerySyntaxError>
     requires open { StandsAt text.now at Open }
     requires depth { depth ≤ 64 }
     ensures end { IfOk result (λ o. (at < o.end) × (o.end ≤ length text.now)) }
     ensures read { Reads text.now (operand_rest text.now depth at) result }
 {
     if depth >= LIMIT {
-        return Err(ReadError::Refused(Fault::TooDeep { at }));
+        return Err(QuerySyntaxError::Refused(Fault::TooDeep { at }));
     }
     let inner = group(alloc, text, at + 1, depth + 1)?;
     if inner.end < text.len() {
@@ -567,13 +567,13 @@ fn bracket(alloc: Global, text: &[u8], at: usize, depth: usize) -> Result<Operan
             free: true,
         })
     } else {
-        Err(ReadError::Refused(Fault::Syntax { at: inner.end }))
+        Err(QuerySyntaxError::Refused(Fault::Syntax { at: inner.end }))
     }
 }
 
 /// What stands between two brackets, or in the whole text: operands joined by `AND` and `OR`.
 #[cycle(reader)]
-fn group(alloc: Global, text: &[u8], from: usize, depth: usize) -> Result<Operand, ReadError>
+fn group(alloc: Global, text: &[u8], from: usize, depth: usize) -> Result<Operand, QuerySyntaxError>
     requires within { from ≤ length text.now }
     requires depth { depth ≤ 64 }
     ensures end { IfOk result (λ o. (from < o.end) × (o.end ≤ length text.now)) }
@@ -609,7 +609,7 @@ fn operands(
     depth: usize,
     ors: &mut Vec<Raw>,
     ands: &mut Vec<Raw>,
-) -> Result<usize, ReadError>
+) -> Result<usize, QuerySyntaxError>
     requires within { start ≤ length text.now }
     requires depth { depth ≤ 64 }
     requires some { 0 < length ands.old.items }
@@ -624,7 +624,7 @@ fn operands(
     let mut free = first_free;
     'operands: loop {
         match what_follows(text, at, free) {
-            Err(fault) => return Err(ReadError::Refused(fault)),
+            Err(fault) => return Err(QuerySyntaxError::Refused(fault)),
             Ok(Next::End(end)) => return Ok(end),
             Ok(Next::And(place)) => {
                 let next = operand_at(alloc, text, place, depth)?;
@@ -648,10 +648,10 @@ fn begin_or(
     ors: &mut Vec<Raw>,
     ands: &mut Vec<Raw>,
     raw: Raw,
-) -> Result<(), ReadError>
+) -> Result<(), QuerySyntaxError>
     ensures ors { OnOk result (trees_after no_trees (map view ors.new.items) ≡ behind (trees_after no_trees (map view ors.old.items)) (and_tree (trees_after no_trees (map view ands.old.items)))) }
     ensures ands { OnOk result (ands.new.items ≡ raw ∷ []) }
-    ensures memory { IfErr result (λ e. e ≡ ReadError.Memory) }
+    ensures memory { IfErr result (λ e. e ≡ QuerySyntaxError.Memory) }
 {
     ors.push(all_of(mem::replace(ands, Vec::new(alloc))))?;
     ands.push(raw)?;
@@ -659,9 +659,9 @@ fn begin_or(
 }
 
 /// A list of one.
-fn one(alloc: Global, raw: Raw) -> Result<Vec<Raw>, ReadError>
+fn one(alloc: Global, raw: Raw) -> Result<Vec<Raw>, QuerySyntaxError>
     ensures items { IfOk result (λ v. v.items ≡ raw ∷ []) }
-    ensures memory { IfErr result (λ e. e ≡ ReadError.Memory) }
+    ensures memory { IfErr result (λ e. e ≡ QuerySyntaxError.Memory) }
 {
     let mut list = Vec::new(alloc);
     list.push(raw)?;
@@ -694,9 +694,9 @@ fn all_of(mut parts: Vec<Raw>) -> Raw
 }
 
 /// The members of an Or with one more, or the one that there is.
-fn some_of(mut parts: Vec<Raw>, last: Raw) -> Result<Raw, ReadError>
+fn some_of(mut parts: Vec<Raw>, last: Raw) -> Result<Raw, QuerySyntaxError>
     ensures ok { IfOk result (λ raw. view raw ≡ or_tree (behind (trees_after no_trees (map view parts.items)) (view last))) }
-    ensures memory { IfErr result (λ e. e ≡ ReadError.Memory) }
+    ensures memory { IfErr result (λ e. e ≡ QuerySyntaxError.Memory) }
 {
     let list = parts.as_slice();
     let count = list.len();
@@ -708,14 +708,14 @@ fn some_of(mut parts: Vec<Raw>, last: Raw) -> Result<Raw, ReadError>
 }
 
 /// The text as the machine reads it.
-pub fn read_whole(alloc: Global, text: &str) -> Result<Raw, ReadError>
+pub fn read_whole(alloc: Global, text: &str) -> Result<Raw, QuerySyntaxError>
     ensures read { IfOk result (λ raw. reads text.now ≡ Ok (view raw)) }
     ensures fault { IfErr result (λ e. OnFault e (λ fault. reads text.now ≡ Err fault)) }
 {
     let bytes = text.as_bytes();
     let whole = group(alloc, bytes, 0, 0)?;
     if whole.end < bytes.len() {
-        Err(ReadError::Refused(Fault::Syntax { at: whole.end }))
+        Err(QuerySyntaxError::Refused(Fault::Syntax { at: whole.end }))
     } else {
         Ok(whole.raw)
     }

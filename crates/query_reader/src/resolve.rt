@@ -7,7 +7,7 @@ ghost use Rattle.query_reader.specs.Tree.{view_ask, view as tree, trees_after, n
 ghost use Rattle.query_reader.specs.Resolve as spec;
 
 use crate::asked::{asked_of, bad_value, unplaced};
-use crate::fault::{Fault, ReadError};
+use crate::fault::{Fault, QuerySyntaxError};
 use crate::numbers::FieldNumbers;
 use crate::reader::read_whole;
 use crate::refusal::QueryError;
@@ -343,8 +343,8 @@ pub fn read_query(
 {
     match read_whole(alloc, text) {
         Ok(raw) => resolve(alloc, schema, defaults.as_slice(), text.as_bytes(), &raw),
-        Err(ReadError::Memory) => Err(QueryError::Memory(AllocError)),
-        Err(ReadError::Refused(Fault::Syntax { at })) => Err(QueryError::Syntax { at }),
-        Err(ReadError::Refused(Fault::TooDeep { at })) => Err(QueryError::TooDeep { at }),
+        Err(QuerySyntaxError::Memory) => Err(QueryError::Memory(AllocError)),
+        Err(QuerySyntaxError::Refused(Fault::Syntax { at })) => Err(QueryError::Syntax { at }),
+        Err(QuerySyntaxError::Refused(Fault::TooDeep { at })) => Err(QueryError::TooDeep { at }),
     }
 }

@@ -14,7 +14,7 @@ use Rattle.quick_node.specs.Reading.{Ending, stopped, ReadsFrom, fit_if, fit_of,
 use Rattle.quick_node.specs.Serve.{IsPrefixOf, Before, After, End, by_reading, no_index, opening_failed, read_failed, write_failed, out_of_memory, HasEnd, IsFresh, Answers, RanShort, Lives}
 use Rattle.quick_node.proofs.Files.{IsTimed, loaded_few}
 use Rattle.quick_node.proofs.Prefixes.{longer}
-use Rattle.quick_node.proofs.Living.{opens_moves}
+use Rattle.quick_node.proofs.NodeAtEnd.{opens_moves}
 use Rattle.quick_node.proofs.Names.{moments_go_on}
 use Rattle.quick_node.proofs.Opened.{loaded_some}
 use Rattle.quick_node.proofs.Searching.{prefix_on}

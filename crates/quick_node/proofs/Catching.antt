@@ -39,10 +39,10 @@ use Rattle.root_search.specs.declared.outcome.SearchStep.{SearchStep}
 use Rattle.split_collector.specs.Outcomes.{Outcome as CollectorOutcome}
 use Rattle.node_run.proofs.CallMoves.{Grows}
 use Rattle.node_run.proofs.Moving.{turn_later, turns_later}
-use Rattle.node_run.specs.Turns.{reader_of, said_by_client, said_by_collector, Luck, Turned, turned, indexer_at, with_indexer, made_idle, indexing_luck, said_by_indexer, assign_at, indexer_turn_by, client_turn_by, client_named, collector_turn_by, open_by, restart_by, full_turn, quiet, or_quiet, turn_by, Turn, Turns, said_by_worker, worker_turn_by, with_deleter, with_merger}
+use Rattle.node_run.specs.Turns.{reader_of, said_by_client, said_by_collector, LineLuck, Turned, turned, indexer_at, with_indexer, made_idle, indexing_luck, said_by_indexer, assign_at, indexer_turn_by, client_turn_by, client_named, collector_turn_by, open_by, restart_by, full_turn, quiet, or_quiet, turn_by, Turn, Turns, said_by_worker, worker_turn_by, with_deleter, with_merger}
 use Rattle.quick_node.specs.CaughtUp.{IfHere, Seen, unseen, after_said, after_line, AreEnds, SaidAtEnds, LineAtEnds, CatchesUp}
 use Rattle.quick_node.specs.Serve.{IsPrefixOf, Before, End, by_reading, no_index, opening_failed, read_failed, write_failed, out_of_memory, IsFresh, Answers, Unopened, RanShort, Lives}
-use Rattle.quick_node.proofs.Living.{opens_moves}
+use Rattle.quick_node.proofs.NodeAtEnd.{opens_moves}
 use Rattle.quick_node.proofs.Searching.{prefix_on}
 
 -- ---- what a batch knows of the checkpoints that it began with
@@ -245,7 +245,7 @@ module _ (exit : List Entry) (log : Log) (seen : Seen) where
   front_taken : (h : List Entry) → IsPrefixOf h exit → take (length h) exit ≡ h
   front_taken h p = ap (take (length h)) p.1 ∙ take-append-le (length h) h p.0 (omega arith) ∙ take_all (length h) h (omega arith)
 
-  module _ (luck : indexing.Luck) (core : Core) where
+  module _ (luck : indexing.IndexerLuck) (core : Core) where
     trouble_steps : (trouble : Trouble) (indexer : Indexer) (c : Core) → indexer.assignment ≡ seen.assignment → Steps (indexing.stepped (indexing.trouble_outcome trouble) idle indexer c)
     trouble_steps (faulted fault) indexer c same = said (Faulted fault) idle indexer c (λ p. record { says = tt; place_is = tt; assignment_is = same })
     trouble_steps no_memory indexer c same = unsaid idle indexer c
@@ -516,7 +516,7 @@ module _ (exit : List Entry) (log : Log) (i : ℕ) (seen : Seen) where
     stepped_did j step None e steps = unsaid_did (StepIndexer j) _
     stepped_did j step (Some o) e steps = said_did (StepIndexer j) (indexer_said j o) _ (λ p. step_did j step steps o e p (j == i) refl)
 
-    indexer_did : (down : Bool) (luck : Luck) (j : ℕ) → TurnDid (StepIndexer j) (indexer_turn_by down luck j node)
+    indexer_did : (down : Bool) (luck : LineLuck) (j : ℕ) → TurnDid (StepIndexer j) (indexer_turn_by down luck j node)
     indexer_did true luck j = said_did (StepIndexer j) _ node (λ p. record { says = tt; log_is = log_is; watches = w })
     indexer_did false luck j =
         let step = step_indexer (indexing_luck luck) node.log (indexer_at node.indexers j) node.core in
@@ -570,7 +570,7 @@ module _ (exit : List Entry) (log : Log) (i : ℕ) (seen : Seen) where
     searched_did name None new l v = unsaid_did (StepClient name) new
     searched_did name (Some s) new l v = said_did (StepClient name) _ new (λ p. record { says = tt; log_is = l; watches = v })
 
-    client_did : (down : Bool) (luck : Luck) (name : List ℕ) → TurnDid (StepClient name) (client_turn_by down luck name node)
+    client_did : (down : Bool) (luck : LineLuck) (name : List ℕ) → TurnDid (StepClient name) (client_turn_by down luck name node)
     client_did true luck name = said_did (StepClient name) _ _ (λ p. record { says = tt; log_is = log_is; watches = w })
     client_did false luck name = searched_did name _ _ log_is w
 
@@ -582,11 +582,11 @@ module _ (exit : List Entry) (log : Log) (i : ℕ) (seen : Seen) where
     deleted_did aim None new l v = unsaid_did StepDeleter new
     deleted_did aim (Some o) new l v = said_did StepDeleter _ new (λ p. record { says = tt; log_is = l; watches = v })
 
-    merger_did : (down : Bool) (luck : Luck) → TurnDid StepMerger (worker_turn_by down Merging node.merger with_merger luck node)
+    merger_did : (down : Bool) (luck : LineLuck) → TurnDid StepMerger (worker_turn_by down Merging node.merger with_merger luck node)
     merger_did true luck = said_did StepMerger _ node (λ p. record { says = tt; log_is = log_is; watches = w })
     merger_did false luck = worked_did Merging _ _ log_is w
 
-    deleter_did : (down : Bool) (luck : Luck) → TurnDid StepDeleter (worker_turn_by down Deleting node.deleter with_deleter luck node)
+    deleter_did : (down : Bool) (luck : LineLuck) → TurnDid StepDeleter (worker_turn_by down Deleting node.deleter with_deleter luck node)
     deleter_did true luck = said_did StepDeleter _ node (λ p. record { says = tt; log_is = log_is; watches = w })
     deleter_did false luck = deleted_did Deleting _ _ log_is w
 
@@ -595,7 +595,7 @@ module _ (exit : List Entry) (log : Log) (i : ℕ) (seen : Seen) where
     collected_did None new l v = unsaid_did StepCollector new
     collected_did (Some o) new l v = said_did StepCollector _ new (λ p. record { says = tt; log_is = l; watches = v })
 
-    collector_did : (down : Bool) (luck : Luck) → TurnDid StepCollector (collector_turn_by down luck node)
+    collector_did : (down : Bool) (luck : LineLuck) → TurnDid StepCollector (collector_turn_by down luck node)
     collector_did true luck = said_did StepCollector _ node (λ p. record { says = tt; log_is = log_is; watches = w })
     collector_did false luck = collected_did _ _ log_is w
 
@@ -605,7 +605,7 @@ module _ (exit : List Entry) (log : Log) (i : ℕ) (seen : Seen) where
     restart_did (Err (not_read no_memory)) core = unsaid_did RestartNode _
     restart_did (Err calls.no_index) core = said_did RestartNode _ _ (λ p. record { says = tt; log_is = log_is; watches = idle_watches node.indexers w })
 
-    full_did : (luck : Luck) (line : Line) → TurnDid line (full_turn luck node line)
+    full_did : (luck : LineLuck) (line : Line) → TurnDid line (full_turn luck node line)
     full_did luck (At moment) = said_did (At moment) _ _ (λ p. record { says = tt; log_is = log_is; watches = w })
     full_did luck (Assign j names) = assign_did (indexer_at node.indexers j).place j names
     full_did luck (StepIndexer j) = indexer_did node.down luck j
@@ -625,7 +625,7 @@ module _ (exit : List Entry) (log : Log) (i : ℕ) (seen : Seen) where
     quiet_did true line turn d = unsaid_did line (quiet line turn.node)
     quiet_did false line turn d = d
 
-    by_did : (b : Bool) (luck : Luck) (line : Line) → TurnDid line (turn_by b luck node line)
+    by_did : (b : Bool) (luck : LineLuck) (line : Line) → TurnDid line (turn_by b luck node line)
     by_did true luck line = unsaid_did line (quiet line node)
     by_did false luck line = quiet_did luck.short line (full_turn luck node line) (full_did luck line)
 

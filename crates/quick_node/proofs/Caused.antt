@@ -12,7 +12,7 @@ use Rattle.quick_node.specs.Ending.{ended_status}
 use Rattle.quick_node.specs.Running.{Counts, counts_of, done_behind}
 use Rattle.quick_node.specs.declared.error_line.End.{End as Ended}
 use Rattle.quick_node.specs.declared.error_line.End.TheVariants as ended
-use Rattle.quick_node.proofs.Going.{rose_earlier}
+use Rattle.quick_node.proofs.RunSteps.{rose_earlier}
 
 module _ (before after : Faults) (status : ℕ) (read : before.input ≤ after.input) (written : before.output ≤ after.output) where
   pub caused : (s : ℕ) → status ≡ s → (s ≡ 4 → Rose before.store after.store) → (s ≡ 5 → Rose before.input after.input) → (s ≡ 6 → Rose before.output after.output) →

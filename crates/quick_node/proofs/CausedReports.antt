@@ -9,7 +9,7 @@ use Rattle.quick_node.specs.Reporting.{EndsReportBy}
 use Rattle.quick_node.specs.declared.error_line.End.{End as Ended}
 use Rattle.quick_node.specs.declared.error_line.End.TheVariants as ended
 use Rattle.quick_node.proofs.Caused.{caused, by_none}
-use Rattle.quick_node.proofs.Going.{rose_earlier}
+use Rattle.quick_node.proofs.RunSteps.{rose_earlier}
 
 module _ (store read written store' mid written' status : ℕ) (low : written ≤ mid) (later : mid ≤ written') where
   abbrev entry : Faults

@@ -4,13 +4,13 @@ use Rattle.std.specs.Prelude.{Some, None}
 use Rattle.index_world.specs.Calls.{loaded}
 use Rattle.upkeep_run.specs.declared.work.Aim.TheVariants.{Deleting, Merging}
 use Rattle.node_run.specs.Node.{Node, Line, At, Assign, StepIndexer, RestartIndexer, RestartClient, StepMerger, RestartMerger, StepDeleter, RestartDeleter, StepCollector, RestartCollector, RestartNode, Open, StepClient, Outcome}
-use Rattle.node_run.specs.Turns.{Luck, indexer_at, client_named, with_deleter, with_merger, full_turn, or_quiet, turn_by, Turn}
+use Rattle.node_run.specs.Turns.{LineLuck, indexer_at, client_named, with_deleter, with_merger, full_turn, or_quiet, turn_by, Turn}
 use Rattle.node_run.proofs.CallMoves.{loaded_moves}
 use Rattle.node_run.proofs.Moving.{assign_same, open_same, restart_same, indexer_turn_moves, client_turn_moves, worker_turn_moves, collector_turn_moves}
 use Rattle.quick_node.specs.Reading.{last_moment}
 
 -- the moment that a line sets, if it sets one
-full_ticks : (luck : Luck) (node : Node) (line : Line) → (full_turn luck node line).node.core.clock ≡ last_moment node.core.clock (line ∷ [])
+full_ticks : (luck : LineLuck) (node : Node) (line : Line) → (full_turn luck node line).node.core.clock ≡ last_moment node.core.clock (line ∷ [])
 full_ticks luck node (At moment) = refl
 full_ticks luck node (Assign i names) = ap (λ c. c.clock) (assign_same (indexer_at node.indexers i).place i names (indexer_at node.indexers i) node)
 full_ticks luck node (StepIndexer i) = (indexer_turn_moves node.down luck i node).ticks

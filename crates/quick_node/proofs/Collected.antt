@@ -36,7 +36,7 @@ use Rattle.index_world.proofs.Dooming.{doomed_is_free, swept_is_free}
 use Rattle.index_world.proofs.Numbers.{revision_is}
 use Rattle.index_world.proofs.StoreKeys.{none_some, true_is_false}
 use Rattle.split_collector.specs.Outcomes.{Outcome, MarkedStale, Doomed, Removed}
-use Rattle.split_collector.specs.Steps.{CallLuck, Luck, Stand, alone, end_at, ends_behind, failed_with, first_fate, least_left, max_calls, other_fates, outcome_at, outcome_unless, outcomes, page_by, step_collector, turned}
+use Rattle.split_collector.specs.Steps.{CallLuck, CollectorLuck, Stand, alone, end_at, ends_behind, failed_with, first_fate, least_left, max_calls, other_fates, outcome_at, outcome_unless, outcomes, page_by, step_collector, turned}
 use Rattle.split_collector.specs.Turns.{Turn, behind_delete, behind_doom, behind_list, counted, ended, next_behind, page_turn, paging, to_doom, to_list, to_mark, to_remove, to_sweep}
 use Rattle.node_run.proofs.CallTells.{AreLow}
 use Rattle.quick_node.specs.Collects.{DidBetween}
@@ -452,7 +452,7 @@ module _ (start : Core) (low : AreLow (length start.history) start) (some : 0 < 
   unless_steps true outcome core s = record { leaves = s.leaves; did = tt }
   unless_steps false outcome core s = s
 
-  pub collector_steps : (luck : Luck) → Legal reads (history (step_collector luck start).core.history) → Steps start (step_collector luck start).core (step_collector luck start).outcome
+  pub collector_steps : (luck : CollectorLuck) → Legal reads (history (step_collector luck start).core.history) → Steps start (step_collector luck start).core (step_collector luck start).outcome
   collector_steps luck legal =
       let stand : Stand = alone (max_calls luck) to_mark (luck.world ∷ luck.more) luck.ends start in
       unless_steps luck.short (outcome_at stand.turn) stand.core (at_end stand.turn stand.core (alone_goes (max_calls luck) to_mark (luck.world ∷ luck.more) luck.ends start refl) legal)

@@ -11,7 +11,7 @@ use Rattle.index_world.specs.Calls as calls
 use Rattle.index_world.specs.Collecting.{Offer, adopted_offer, answered_by, appended_if, doom_call, doom_next, doomed_by, first_offer, is_swept, last_offer, list_call, mark_stale_call, next_doomed, nothing, offer_unless, remove_call, removal_offer, stale_offer, sweep_call, sweep_if, transact_if}
 use Rattle.index_world.specs.Core.{Core, last_count}
 use Rattle.split_collector.specs.Outcomes.{Outcome, MarkedStale, Removed}
-use Rattle.split_collector.specs.Steps.{CallLuck, Luck, Stand, alone, end_at, ends_behind, failed_with, first_fate, least_left, max_calls, other_fates, outcome_at, outcome_unless, outcomes, page_by, step_collector, turned}
+use Rattle.split_collector.specs.Steps.{CallLuck, CollectorLuck, Stand, alone, end_at, ends_behind, failed_with, first_fate, least_left, max_calls, other_fates, outcome_at, outcome_unless, outcomes, page_by, step_collector, turned}
 use Rattle.split_collector.specs.Turns.{Turn, behind_delete, behind_doom, behind_list, counted, ended, next_behind, page_turn, paging, to_doom, to_list, to_mark, to_remove, to_sweep}
 use Rattle.quick_node.specs.Faults.{Interval, collector_told}
 use Rattle.quick_node.proofs.FaultCalls.{trouble_told, unmade_told, answer_told, Good, Says, as_given, as_unmade_good, and_then_good, asking_good, begun_bound, begun_on, begun_rose, create_good, failed_here, file_got_good, get_good, last_good, lower, or_short_good, settled_good}
@@ -202,7 +202,7 @@ module _ (low : ℕ) where
   unless_says true outcome core s = record { says = s.on; on = s.on; bound = s.bound }
   unless_says false outcome core s = s
 
-pub collector_says : (luck : Luck) (core : Core) → core.store_faults ≤ last_count → Says core.store_faults (by_collector (step_collector luck core).outcome) (step_collector luck core).core
+pub collector_says : (luck : CollectorLuck) (core : Core) → core.store_faults ≤ last_count → Says core.store_faults (by_collector (step_collector luck core).outcome) (step_collector luck core).core
 collector_says luck core bound =
     let stand : Stand = alone (max_calls luck) to_mark (luck.world ∷ luck.more) luck.ends core in
     unless_says core.store_faults luck.short (outcome_at stand.turn) stand.core

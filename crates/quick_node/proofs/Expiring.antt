@@ -34,7 +34,7 @@ use Rattle.indexing_run.specs.Outcomes.{IndexerOutcome}
 use Rattle.indexing_run.specs.Places.{Place, idle, reading, staged, uploaded, Indexer}
 use Rattle.root_search.specs.Answer.{answer, matching, printed, shown}
 use Rattle.root_search.specs.Requests.{ask_of, asked_of}
-use Rattle.root_search.specs.Steps.{Request, no_request, opened, planned, Plan, Client, Luck, Searched, config_at, config_in, delete_by, fault_refusal, fetch_by, fetched_each, next_step, opened_by, or_short as or_unsaid, plan_by, plan_given, refused_over, reply_with, state_refusal, step_client, step_request, trouble_replied, unless_fault, without_memory, without_request}
+use Rattle.root_search.specs.Steps.{Request, no_request, opened, planned, Plan, Client, ClientLuck, Searched, config_at, config_in, delete_by, fault_refusal, fetch_by, fetched_each, next_step, opened_by, or_short as or_unsaid, plan_by, plan_given, refused_over, reply_with, state_refusal, step_client, step_request, trouble_replied, unless_fault, without_memory, without_request}
 use Rattle.root_search.specs.declared.outcome.SearchStep.{SearchStep}
 use Rattle.root_search.specs.declared.outcome.SearchStep.TheVariants.{Idle, Planned, Fetched, Replied}
 use Rattle.split_collector.specs.Outcomes.{Outcome as CollectorOutcome}
@@ -53,7 +53,7 @@ use Rattle.node_run.proofs.Refusals.{OfText, asked_of_text}
 use Rattle.quick_node.specs.Expires.{ExpiresOver, IsOver, SaidIsOver}
 use Rattle.quick_node.specs.Serve.{IsPrefixOf, Before, End, by_reading, no_index, opening_failed, read_failed, write_failed, out_of_memory, IsFresh, Answers, RanShort, Lives}
 use Rattle.quick_node.proofs.Lateness.{IsLate, IsOnTime, MadeOnTime, WorkOver, WorkerKeeps, appended_timely, fetched_late, worker_keeps}
-use Rattle.quick_node.proofs.Living.{opens_moves}
+use Rattle.quick_node.proofs.NodeAtEnd.{opens_moves}
 use Rattle.quick_node.proofs.Onces.{configured_on}
 use Rattle.quick_node.proofs.Searching.{prefix_on}
 
@@ -177,7 +177,7 @@ module _ (grace : ℕ) where
       let count = all_buckets search.aggs (docs_of found) in
       buckets_over (nat_lt most_buckets count) (length found) (told count) (printed s (shown search found)) (map (nested_answer (docs_of found)) search.aggs)
 
-  module _ (luck : Luck) (log : Log) (client : Client) (core : Core) where
+  module _ (luck : ClientLuck) (log : Log) (client : Client) (core : Core) where
     next_keeps : (plan : Plan) (unfetched : List ℕ) → Keeps grace (planned plan) → StepKeeps grace (next_step luck log plan unfetched client core)
     next_keeps plan [] k = reply_keeps plan.revision _ client core (answer_over (config_at plan.revision core).schema plan.search (visible_at plan.revision core.history log))
     next_keeps plan (number ∷ more) k =
@@ -261,7 +261,7 @@ module _ (grace : ℕ) (node : Node) (all : AllKeep grace node.clients) (work : 
   indexer_over i None = tt
   indexer_over i (Some outcome) = tt
 
-  indexer_keeps : (down : Bool) (luck : node_turns.Luck) (i : ℕ) → LineKeeps grace (indexer_turn_by down luck i node)
+  indexer_keeps : (down : Bool) (luck : node_turns.LineLuck) (i : ℕ) → LineKeeps grace (indexer_turn_by down luck i node)
   indexer_keeps true luck i = record { clients = all; merger = work; deleter = deletes; said = tt }
   indexer_keeps false luck i = record { clients = all; merger = work; deleter = deletes; said = indexer_over i _ }
 
@@ -269,13 +269,13 @@ module _ (grace : ℕ) (node : Node) (all : AllKeep grace node.clients) (work : 
   worker_over aim None h = tt
   worker_over aim (Some outcome) h = h
 
-  merger_keeps : (down : Bool) (luck : node_turns.Luck) → (config_in (worker_turn_by down Merging node.merger with_merger luck node).node.core).deletion_grace ≡ grace →
+  merger_keeps : (down : Bool) (luck : node_turns.LineLuck) → (config_in (worker_turn_by down Merging node.merger with_merger luck node).node.core).deletion_grace ≡ grace →
       LineKeeps grace (worker_turn_by down Merging node.merger with_merger luck node)
   merger_keeps true luck same = record { clients = all; merger = work; deleter = deletes; said = tt }
   merger_keeps false luck same =
       let s = worker_keeps grace (working_luck luck) node.log node.core Merging node.merger work same in record { clients = all; merger = s.place; deleter = deletes; said = worker_over Merging _ s.said }
 
-  deleter_keeps : (down : Bool) (luck : node_turns.Luck) → (config_in (worker_turn_by down Deleting node.deleter with_deleter luck node).node.core).deletion_grace ≡ grace →
+  deleter_keeps : (down : Bool) (luck : node_turns.LineLuck) → (config_in (worker_turn_by down Deleting node.deleter with_deleter luck node).node.core).deletion_grace ≡ grace →
       LineKeeps grace (worker_turn_by down Deleting node.deleter with_deleter luck node)
   deleter_keeps true luck same = record { clients = all; merger = work; deleter = deletes; said = tt }
   deleter_keeps false luck same =
@@ -285,7 +285,7 @@ module _ (grace : ℕ) (node : Node) (all : AllKeep grace node.clients) (work : 
   collector_over None = tt
   collector_over (Some outcome) = tt
 
-  collector_keeps : (down : Bool) (luck : node_turns.Luck) → LineKeeps grace (collector_turn_by down luck node)
+  collector_keeps : (down : Bool) (luck : node_turns.LineLuck) → LineKeeps grace (collector_turn_by down luck node)
   collector_keeps true luck = record { clients = all; merger = work; deleter = deletes; said = tt }
   collector_keeps false luck = record { clients = all; merger = work; deleter = deletes; said = collector_over _ }
 
@@ -296,7 +296,7 @@ module _ (grace : ℕ) (node : Node) (all : AllKeep grace node.clients) (work : 
   client_over name (Some (Fetched number)) h = tt
   client_over name (Some (Replied reply)) h = h
 
-  client_keeps : (down : Bool) (luck : node_turns.Luck) (name : List ℕ) → (config_in (client_turn_by down luck name node).node.core).deletion_grace ≡ grace → LineKeeps grace (client_turn_by down luck name node)
+  client_keeps : (down : Bool) (luck : node_turns.LineLuck) (name : List ℕ) → (config_in (client_turn_by down luck name node).node.core).deletion_grace ≡ grace → LineKeeps grace (client_turn_by down luck name node)
   client_keeps true luck name same = record { clients = with_keeps grace (client_named name node.clients) node.clients (named_keeps grace name node.clients all) all; merger = work; deleter = deletes; said = tt }
   client_keeps false luck name same =
       let client = client_named name node.clients in
@@ -320,7 +320,7 @@ module _ (grace : ℕ) (node : Node) (all : AllKeep grace node.clients) (work : 
   restart_keeps (Err (not_read no_memory)) core = record { clients = without_keeps grace node.clients; merger = tt; deleter = tt; said = tt }
   restart_keeps (Err calls.no_index) core = record { clients = without_keeps grace node.clients; merger = tt; deleter = tt; said = tt }
 
-  full_keeps : (luck : node_turns.Luck) (line : Line) → (config_in (full_turn luck node line).node.core).deletion_grace ≡ grace → LineKeeps grace (full_turn luck node line)
+  full_keeps : (luck : node_turns.LineLuck) (line : Line) → (config_in (full_turn luck node line).node.core).deletion_grace ≡ grace → LineKeeps grace (full_turn luck node line)
   full_keeps luck (At moment) same = record { clients = all; merger = work; deleter = deletes; said = tt }
   full_keeps luck (Assign i names) same = assign_keeps (indexer_at node.indexers i).place i names (indexer_at node.indexers i)
   full_keeps luck (StepIndexer i) same = indexer_keeps node.down luck i

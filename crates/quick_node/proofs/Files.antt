@@ -612,7 +612,7 @@ indexer_short_same : (b : Bool) (step : Stepped) → (indexing.or_short b step).
 indexer_short_same true step = refl
 indexer_short_same false step = refl
 
-module _ (luck : indexing.Luck) (log : Log) (core : Core) where
+module _ (luck : indexing.IndexerLuck) (log : Log) (core : Core) where
   take_few : (indexer : Indexer) → Takes Few core (take_checkpoints luck log indexer core).core
   take_few indexer = same (weaker One Few one_few (looked_one luck.world core)) (checkpoints_same _ log indexer _)
 
@@ -658,7 +658,7 @@ client_short_same : (b : Bool) (client : Client) (step : searching.Searched) →
 client_short_same true client step = refl
 client_short_same false client step = refl
 
-module _ (luck : searching.Luck) (log : Log) (client : Client) (core : Core) where
+module _ (luck : searching.ClientLuck) (log : Log) (client : Client) (core : Core) where
   next_few : (plan : Plan) (unfetched : List ℕ) → Takes Few core (next_step luck log plan unfetched client core).core
   next_few plan [] = none Few tt (still core)
   next_few plan (number ∷ more) = same (none Few tt (each_still plan.grace luck.more luck.world core)) (fetch_same _ plan number more client _)

@@ -19,7 +19,7 @@ use Rattle.quick_node.specs.Serve.{WroteLine}
 use Rattle.quick_node.specs.declared.error_line.End.{End as Ended}
 use Rattle.quick_node.specs.declared.error_line.End.TheVariants as ended
 use Rattle.quick_node.specs.declared.reporting.Report.{Report}
-use Rattle.quick_node.proofs.Founded.{silent}
+use Rattle.quick_node.proofs.CreateClause.{silent}
 
 -- ---- what is told
 

@@ -15,7 +15,7 @@ use Rattle.node_run.proofs.Moving.{turn_later, turns_later}
 use Rattle.quick_node.specs.Collects.{Collects, CollectsFrom, DidBetween}
 use Rattle.quick_node.specs.Serve.{IsPrefixOf, Along, AnswersAlong, NoneAlong, RunAlong, TurnsAlong}
 use Rattle.quick_node.proofs.EntryRows.{stays_gone}
-use Rattle.quick_node.proofs.Living.{opens_moves}
+use Rattle.quick_node.proofs.NodeAtEnd.{opens_moves}
 use Rattle.quick_node.proofs.Searching.{prefix_on}
 
 front_at : (xs ys : List Entry) (place : ℕ) (entry : Entry) → slice_get xs place ≡ Some entry → slice_get (xs ++ ys) place ≡ Some entry

@@ -16,7 +16,7 @@ use Rattle.index_world.specs.Gate.{raise_call, replace_call, stage_act, stage_ca
 use Rattle.index_world.specs.Index.{max_entries}
 use Rattle.upkeep_run.specs.Outcomes.{UpkeepOutcome}
 use Rattle.upkeep_run.specs.Places.{Held, Place, Work, fetching, held_facts, held_file, idle, staged, uploaded}
-use Rattle.upkeep_run.specs.Steps.{Luck, Stepped, config_in, drops_none, fetch_by, first_number, grace_in, held_of, or_short as or_unsaid, plan_by, plan_with, raise_by, replace_by, rows_in, stage_by, step_close, step_place, step_raise, step_stage, step_work, step_worker, trouble_outcome, upload_by, work_in}
+use Rattle.upkeep_run.specs.Steps.{WorkerLuck, Stepped, config_in, drops_none, fetch_by, first_number, grace_in, held_of, or_short as or_unsaid, plan_by, plan_with, raise_by, replace_by, rows_in, stage_by, step_close, step_place, step_raise, step_stage, step_work, step_worker, trouble_outcome, upload_by, work_in}
 use Rattle.upkeep_run.specs.declared.work.Aim.{Aim}
 use Rattle.upkeep_run.specs.declared.work.Aim.TheVariants.{Deleting, Merging}
 use Rattle.node_run.proofs.CallTells.{IfErr, IsStoreTrouble, asked_and_looked_own, got_own, settle_own}
@@ -216,7 +216,7 @@ module _ (grace : ℕ) where
   replace_keeps (Err (refused refusal)) number core h = record { place = tt; said = tt }
   replace_keeps (Err (troubled trouble)) number core h = record { place = tt; said = trouble_over trouble h }
 
-  module _ (luck : Luck) (log : Log) (core : Core) where
+  module _ (luck : WorkerLuck) (log : Log) (core : Core) where
     staging_keeps : (held : ℕ → Held) → StepOnTime grace (step_stage luck held core)
     staging_keeps held = let given = stage_call [] (held_facts (held 0)) luck.world core in stage_keeps given.answer held given.core (appended_timely (stage_act [] (held_facts (held 0))) luck.world core)
 

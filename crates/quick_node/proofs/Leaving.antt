@@ -18,7 +18,7 @@ use Rattle.upkeep_run.specs.Outcomes.{UpkeepOutcome}
 use Rattle.upkeep_run.specs.declared.work.Aim.{Aim}
 use Rattle.upkeep_run.specs.declared.work.Aim.TheVariants.{Deleting, Merging}
 use Rattle.node_run.specs.Node.{Node, Line, At, Assign, StepIndexer, RestartIndexer, RestartClient, StepMerger, RestartMerger, StepDeleter, RestartDeleter, StepCollector, RestartCollector, RestartNode, Open, StepClient, Outcome}
-use Rattle.node_run.specs.Turns.{Luck, Turned, indexer_at, indexing_luck, searching_luck, collecting_luck, said_by_indexer, said_by_client, said_by_collector, said_by_worker, working_luck, with_deleter, with_merger, worker_turn_by, assign_at, indexer_turn_by, client_turn_by, collector_turn_by, client_named, open_by, restart_by, full_turn, quiet, or_quiet, turn_by, Turn}
+use Rattle.node_run.specs.Turns.{LineLuck, Turned, indexer_at, indexing_luck, searching_luck, collecting_luck, said_by_indexer, said_by_client, said_by_collector, said_by_worker, working_luck, with_deleter, with_merger, worker_turn_by, assign_at, indexer_turn_by, client_turn_by, collector_turn_by, client_named, open_by, restart_by, full_turn, quiet, or_quiet, turn_by, Turn}
 use Rattle.node_run.proofs.CallTells.{AreLow}
 use Rattle.node_run.proofs.Moving.{assign_same, open_same, restart_same}
 use Rattle.quick_node.specs.Collects.{LineCollects}
@@ -80,7 +80,7 @@ at_leaves : (core : Core) (moment : ℕ) → Leaves core (record core { clock = 
 at_leaves core moment =
     record { files = λ key bytes e. inl e; more = []; grown = sym (append-nil core.history); few = inl tt; journal = same_journal core (record core { clock = moment }) refl }
 
-module _ (luck : Luck) (node : Node) where
+module _ (luck : LineLuck) (node : Node) where
   indexer_leaves : (down : Bool) (i : ℕ) → LineLeaves node.core (indexer_turn_by down luck i node)
   indexer_leaves true i = stays (none Few tt (still node.core)) tt
   indexer_leaves false i =
@@ -154,7 +154,7 @@ quiet_same (StepClient name) node = refl
 quiet_leaves : (start : Core) (line : Line) (node : Node) → Leaves start node.core → LineLeaves start (record { said = None; node = quiet line node })
 quiet_leaves start line node l = record { leaves = subst (Leaves start) (sym (quiet_same line node)) l; did = tt }
 
-module _ (luck : Luck) (node : Node) (line : Line) (some : 0 < length node.core.history) (low : AreLow (length node.core.history) node.core) where
+module _ (luck : LineLuck) (node : Node) (line : Line) (some : 0 < length node.core.history) (low : AreLow (length node.core.history) node.core) where
   or_quiet_leaves : (b : Bool) → Legal reads (history (or_quiet b line (full_turn luck node line)).node.core.history) → LineLeaves node.core (or_quiet b line (full_turn luck node line))
   or_quiet_leaves true legal =
       let turn = full_turn luck node line in

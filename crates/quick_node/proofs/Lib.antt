@@ -5,7 +5,7 @@ mod TaskCauses
 mod Replying
 mod Searching
 pub mod Fronts
-pub mod Living
+pub mod NodeAtEnd
 pub mod InOneWay
 pub mod Exact
 pub mod Calmed
@@ -13,14 +13,14 @@ pub mod Clocks
 pub mod Names
 pub mod Fitted
 pub mod Onward
-pub mod Going
+pub mod RunSteps
 pub mod Taking
-pub mod Driving
+pub mod DriveRun
 pub mod Words
 pub mod SameLog
 pub mod Short
 pub mod LongerLog
-pub mod UpToLast
+pub mod BeforeLastLine
 pub mod Onces
 pub mod Files
 mod Working
@@ -29,15 +29,15 @@ mod CollectorKeeps
 mod Collected
 mod Leaving
 pub mod Reached
-pub mod Driven
+pub mod DriveClause
 pub mod Bytes
 mod Caused
 mod NewIndex
 mod FaultCalls
 mod CollectorFaults
 mod WorkerFaults
-mod Faulting
-mod Telling
+mod LineFaults
+mod EndFaults
 mod Catching
 mod Gathered
 mod Lateness
@@ -50,11 +50,11 @@ mod MergeCalls
 mod Merged
 mod ApplyCalls
 mod Applied
-mod Sources
-pub mod Founding
-pub mod Founded
-pub mod Printing
-pub mod Printed
+mod LogFaults
+pub mod CreateLeaves
+pub mod CreateClause
+pub mod ReportLeaves
+pub mod ReportClause
 mod CausedReports
 mod Unread
 mod Finding

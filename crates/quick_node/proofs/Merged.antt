@@ -21,7 +21,7 @@ use Rattle.index_world.specs.Index.{HasStaged}
 use Rattle.upkeep_run.specs.Outcomes.{UpkeepOutcome}
 use Rattle.upkeep_run.specs.Outcomes as said
 use Rattle.upkeep_run.specs.Places.{Held, Place, Work, fetching, held_facts, held_file, idle, row_numbers, staged, uploaded}
-use Rattle.upkeep_run.specs.Steps.{Luck, Stepped, fetch_by, grace_in, held_of, or_short, plan_by, plan_with, replace_by, rows_in, stage_by, step_place, step_work, step_worker, trouble_outcome, upload_by, work_in}
+use Rattle.upkeep_run.specs.Steps.{WorkerLuck, Stepped, fetch_by, grace_in, held_of, or_short, plan_by, plan_with, replace_by, rows_in, stage_by, step_place, step_work, step_worker, trouble_outcome, upload_by, work_in}
 use Rattle.upkeep_run.specs.declared.work.Aim.TheVariants.{Merging, Deleting}
 use Rattle.node_run.specs.Node.{Node, Line, Outcome, worker_said, worker_restarted, node_restarted, node_failed}
 use Rattle.node_run.specs.Turns.{Turns}
@@ -247,7 +247,7 @@ module _ (start : Core) (clock : ℕ) (plan : List ℕ) where
 
 -- ---- what a step of the machine did
 
-module _ (luck : Luck) (log : Log) (start : Core) (clock : ℕ) (plan : List ℕ) (t : IsTimed start) (told : start.clock ≡ clock) (some : 0 < length start.history) where
+module _ (luck : WorkerLuck) (log : Log) (start : Core) (clock : ℕ) (plan : List ℕ) (t : IsTimed start) (told : start.clock ≡ clock) (some : 0 < length start.history) where
   abbrev DidAll : Stepped → Type 0
   DidAll step = Legal reads (history step.core.history) → Grows start step.core → DidStep start clock plan step
 

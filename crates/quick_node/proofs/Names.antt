@@ -118,23 +118,23 @@ module _ (names : List (List ℕ)) (node : Node) (are : AreNamed names node.clie
   assign_named (staged held) i parts = are
   assign_named (uploaded held) i parts = are
 
-  indexer_named : (down : Bool) (luck : turning.Luck) (i : ℕ) → AreNamed names (indexer_turn_by down luck i node).node.clients
+  indexer_named : (down : Bool) (luck : turning.LineLuck) (i : ℕ) → AreNamed names (indexer_turn_by down luck i node).node.clients
   indexer_named true luck i = are
   indexer_named false luck i = are
 
-  merger_named : (down : Bool) (luck : turning.Luck) → AreNamed names (worker_turn_by down Merging node.merger with_merger luck node).node.clients
+  merger_named : (down : Bool) (luck : turning.LineLuck) → AreNamed names (worker_turn_by down Merging node.merger with_merger luck node).node.clients
   merger_named true luck = are
   merger_named false luck = are
 
-  deleter_named : (down : Bool) (luck : turning.Luck) → AreNamed names (worker_turn_by down Deleting node.deleter with_deleter luck node).node.clients
+  deleter_named : (down : Bool) (luck : turning.LineLuck) → AreNamed names (worker_turn_by down Deleting node.deleter with_deleter luck node).node.clients
   deleter_named true luck = are
   deleter_named false luck = are
 
-  collector_named : (down : Bool) (luck : turning.Luck) → AreNamed names (collector_turn_by down luck node).node.clients
+  collector_named : (down : Bool) (luck : turning.LineLuck) → AreNamed names (collector_turn_by down luck node).node.clients
   collector_named true luck = are
   collector_named false luck = are
 
-  client_turn_named : (down : Bool) (luck : turning.Luck) (name : List ℕ) → AreNamed (with_client_name name names) (client_turn_by down luck name node).node.clients
+  client_turn_named : (down : Bool) (luck : turning.LineLuck) (name : List ℕ) → AreNamed (with_client_name name names) (client_turn_by down luck name node).node.clients
   client_turn_named true luck name = kept_named names node.clients are name (client_named name node.clients) (named_name name node.clients)
   client_turn_named false luck name =
       let client = client_named name node.clients in
@@ -166,7 +166,7 @@ module _ (names : List (List ℕ)) (node : Node) (are : AreNamed names node.clie
   restart_named (Err (not_read no_memory)) core = without_named
   restart_named (Err calls.no_index) core = without_named
 
-  full_named : (luck : turning.Luck) (line : Line) → AreNamed (names_in names (line ∷ [])) (full_turn luck node line).node.clients
+  full_named : (luck : turning.LineLuck) (line : Line) → AreNamed (names_in names (line ∷ [])) (full_turn luck node line).node.clients
   full_named luck (At moment) = are
   full_named luck (Assign i parts) = assign_named (indexer_at node.indexers i).place i parts
   full_named luck (StepIndexer i) = indexer_named node.down luck i

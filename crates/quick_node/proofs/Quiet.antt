@@ -13,7 +13,7 @@ use Rattle.quick_node.specs.Opening.{Outside, IsFound, DriveFinds, ReportsFound,
 use Rattle.quick_node.specs.declared.error_line.End.{End as Ended}
 use Rattle.quick_node.specs.declared.error_line.End.TheVariants as ended
 use Rattle.quick_node.specs.declared.reporting.Report.{Report}
-use Rattle.quick_node.proofs.Founding.{nothing_landed}
+use Rattle.quick_node.proofs.CreateLeaves.{nothing_landed}
 
 -- the objects of a journal are one list
 same_objects : (s : State) (n : ℕ) (xs ys : List (List ℕ)) → ObjectsFrom s n xs → ObjectsFrom s n ys → xs ≡ ys

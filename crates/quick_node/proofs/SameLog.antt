@@ -8,7 +8,7 @@ use Rattle.indexing_run.specs.Places.{Place, idle, reading, staged, uploaded, In
 use Rattle.root_search.specs.Steps.{Request, no_request, opened, planned, Client}
 use Rattle.upkeep_run.specs.declared.work.Aim.TheVariants.{Deleting, Merging}
 use Rattle.node_run.specs.Node.{Node, Line, At, Assign, StepIndexer, RestartIndexer, RestartClient, StepMerger, RestartMerger, StepDeleter, RestartDeleter, StepCollector, RestartCollector, RestartNode, Open, StepClient, Outcome}
-use Rattle.node_run.specs.Turns.{Luck, Turned, indexer_at, assign_at, indexer_turn_by, client_turn_by, collector_turn_by, client_named, open_by, restart_by, full_turn, quiet, or_quiet, turn_by, Turn, Turns, worker_turn_by, with_deleter, with_merger}
+use Rattle.node_run.specs.Turns.{LineLuck, Turned, indexer_at, assign_at, indexer_turn_by, client_turn_by, collector_turn_by, client_named, open_by, restart_by, full_turn, quiet, or_quiet, turn_by, Turn, Turns, worker_turn_by, with_deleter, with_merger}
 use Rattle.quick_node.specs.Running.{StopsShort, HasRun}
 use Rattle.quick_node.specs.Serve.{End, by_reading, no_index, opening_failed, read_failed, write_failed, out_of_memory}
 
@@ -29,27 +29,27 @@ restart_log (Err (not_read (faulted fault))) core node = refl
 restart_log (Err (not_read no_memory)) core node = refl
 restart_log (Err calls.no_index) core node = refl
 
-indexer_log : (down : Bool) (luck : Luck) (i : ℕ) (node : Node) → (indexer_turn_by down luck i node).node.log ≡ node.log
+indexer_log : (down : Bool) (luck : LineLuck) (i : ℕ) (node : Node) → (indexer_turn_by down luck i node).node.log ≡ node.log
 indexer_log true luck i node = refl
 indexer_log false luck i node = refl
 
-client_log : (down : Bool) (luck : Luck) (name : List ℕ) (node : Node) → (client_turn_by down luck name node).node.log ≡ node.log
+client_log : (down : Bool) (luck : LineLuck) (name : List ℕ) (node : Node) → (client_turn_by down luck name node).node.log ≡ node.log
 client_log true luck name node = refl
 client_log false luck name node = refl
 
-merger_log : (down : Bool) (luck : Luck) (node : Node) → (worker_turn_by down Merging node.merger with_merger luck node).node.log ≡ node.log
+merger_log : (down : Bool) (luck : LineLuck) (node : Node) → (worker_turn_by down Merging node.merger with_merger luck node).node.log ≡ node.log
 merger_log true luck node = refl
 merger_log false luck node = refl
 
-deleter_log : (down : Bool) (luck : Luck) (node : Node) → (worker_turn_by down Deleting node.deleter with_deleter luck node).node.log ≡ node.log
+deleter_log : (down : Bool) (luck : LineLuck) (node : Node) → (worker_turn_by down Deleting node.deleter with_deleter luck node).node.log ≡ node.log
 deleter_log true luck node = refl
 deleter_log false luck node = refl
 
-collector_log : (down : Bool) (luck : Luck) (node : Node) → (collector_turn_by down luck node).node.log ≡ node.log
+collector_log : (down : Bool) (luck : LineLuck) (node : Node) → (collector_turn_by down luck node).node.log ≡ node.log
 collector_log true luck node = refl
 collector_log false luck node = refl
 
-full_log : (luck : Luck) (node : Node) (line : Line) → (full_turn luck node line).node.log ≡ node.log
+full_log : (luck : LineLuck) (node : Node) (line : Line) → (full_turn luck node line).node.log ≡ node.log
 full_log luck node (At moment) = refl
 full_log luck node (Assign i names) = assign_log (indexer_at node.indexers i).place i names (indexer_at node.indexers i) node
 full_log luck node (StepIndexer i) = indexer_log node.down luck i node
@@ -85,7 +85,7 @@ or_quiet_log : (b : Bool) (line : Line) (turn : Turned) → (or_quiet b line tur
 or_quiet_log true line turn = quiet_log line turn.node
 or_quiet_log false line turn = refl
 
-by_log : (b : Bool) (luck : Luck) (node : Node) (line : Line) → (turn_by b luck node line).node.log ≡ node.log
+by_log : (b : Bool) (luck : LineLuck) (node : Node) (line : Line) → (turn_by b luck node line).node.log ≡ node.log
 by_log true luck node line = quiet_log line node
 by_log false luck node line = or_quiet_log luck.short line (full_turn luck node line) ∙ full_log luck node line
 

@@ -25,7 +25,7 @@ use Rattle.indexing_run.specs.Places.{Place, idle, reading, staged, uploaded, In
 use Rattle.indexing_run.specs.Steps.{step_indexer}
 use Rattle.root_search.specs.Answer.{answer}
 use Rattle.root_search.specs.Requests.{ask_of, asked_of}
-use Rattle.root_search.specs.Steps.{Client, Request, no_request, opened, planned, Plan, Luck, Searched, delete_by, fault_refusal, opened_by, plan_by, plan_given, reply_with, state_refusal, trouble_replied, refused_over, fetch_by, fetched_each, config_at, config_in, next_step, step_request, or_short, step_client, answer_of, without_request}
+use Rattle.root_search.specs.Steps.{Client, Request, no_request, opened, planned, Plan, ClientLuck, Searched, delete_by, fault_refusal, opened_by, plan_by, plan_given, reply_with, state_refusal, trouble_replied, refused_over, fetch_by, fetched_each, config_at, config_in, next_step, step_request, or_short, step_client, answer_of, without_request}
 use Rattle.root_search.specs.declared.outcome.SearchStep.{SearchStep}
 use Rattle.root_search.specs.declared.outcome.SearchStep.TheVariants.{Idle, Planned, Fetched, Replied}
 use Rattle.root_search.proofs.Steps.{as_asked, delete_core}
@@ -277,7 +277,7 @@ module _ (exit : List Entry) (log : Log) (least from : ℕ) (knowns : List Known
     },
   )
 
-  next_went : (unfetched : List ℕ) (luck : Luck) (plan : Plan) (client : Client) (core : Core) →
+  next_went : (unfetched : List ℕ) (luck : ClientLuck) (plan : Plan) (client : Client) (core : Core) →
       Agrees exit least (length core.history) name (known_of name knowns) client →
       OnRequest exit least (known_of name knowns) client.front (length core.history) (planned plan) → IsPrefixOf core.history exit →
       StepWent (next_step luck log plan unfetched client core)
@@ -306,7 +306,7 @@ module _ (exit : List Entry) (log : Log) (least from : ℕ) (knowns : List Known
       ap (take (length core.history)) p.1 ∙ take-append-le (length core.history) core.history p.0 (omega arith) ∙ take_all (length core.history) core.history (omega arith)
 
   -- a search that was read, or a refusal
-  plans_went : (asked : Result Search Unanswered) (text : List ℕ) (luck : Luck) (client : Client) (core : Core) → asked_of (config_in core) text ≡ as_asked asked →
+  plans_went : (asked : Result Search Unanswered) (text : List ℕ) (luck : ClientLuck) (client : Client) (core : Core) → asked_of (config_in core) text ≡ as_asked asked →
       Agrees exit least (length core.history) name (known_of name knowns) client → (known_of name knowns).text ≡ text → Ready exit least core → IsPrefixOf core.history exit → OfText asked →
       StepWent (plan_given asked client (asked_and_looked luck.world core))
   plans_went asked text luck client core word a t ready p fits =
@@ -358,7 +358,7 @@ module _ (exit : List Entry) (log : Log) (least from : ℕ) (knowns : List Known
       (let bound = a.bound in omega (arith, bound, up))
 
   -- a text that was opened, by what it asks
-  opened_went : (asked : Result Asked Unanswered) (text : List ℕ) (luck : Luck) (client : Client) (core : Core) → asked_of (config_in core) text ≡ asked → OfText asked →
+  opened_went : (asked : Result Asked Unanswered) (text : List ℕ) (luck : ClientLuck) (client : Client) (core : Core) → asked_of (config_in core) text ≡ asked → OfText asked →
       Agrees exit least (length core.history) name (known_of name knowns) client → (known_of name knowns).text ≡ text → from ≤ length core.history → Ready exit least core → IsPrefixOf core.history exit →
       IsPrefixOf (opened_by asked luck.world client core).core.history exit → StepWent (opened_by asked luck.world client core)
   opened_went (Ok (IsSearch search)) text luck client core word fits a t low ready p q = plans_went (Ok search) text luck client core word a t ready p tt
@@ -371,7 +371,7 @@ module _ (exit : List Entry) (log : Log) (least from : ℕ) (knowns : List Known
   opened_went (Err (reasons.Refused refusal)) text luck client core word fits a t low ready p q = plans_went (Err (reasons.Refused refusal)) text luck client core word a t ready p fits
   opened_went (Err (reasons.Memory e)) text luck client core word fits a t low ready p q = plans_went (Err (reasons.Memory e)) text luck client core word a t ready p tt
 
-  request_went : (request : Request) (luck : Luck) (client : Client) (core : Core) →
+  request_went : (request : Request) (luck : ClientLuck) (client : Client) (core : Core) →
       Agrees exit least (length core.history) name (known_of name knowns) client → OnRequest exit least (known_of name knowns) client.front (length core.history) request →
       from ≤ length core.history → Ready exit least core → IsPrefixOf core.history exit → IsPrefixOf (step_request request luck log client core).core.history exit →
       StepWent (step_request request luck log client core)
@@ -387,7 +387,7 @@ module _ (exit : List Entry) (log : Log) (least from : ℕ) (knowns : List Known
   short_core true client step = refl
   short_core false client step = refl
 
-  step_went : (luck : Luck) (client : Client) (core : Core) →
+  step_went : (luck : ClientLuck) (client : Client) (core : Core) →
       Agrees exit least (length core.history) name (known_of name knowns) client → from ≤ length core.history → Ready exit least core → IsPrefixOf core.history exit →
       IsPrefixOf (step_client luck log client core).core.history exit → StepWent (step_client luck log client core)
   step_went luck client core a low ready p q =
@@ -493,7 +493,7 @@ module _ (exit : List Entry) (least : ℕ) (knowns : List Known) (node : Node) (
       (λ q. known_of q knowns) (λ q. known_of q knowns) (λ q. client_named q node.clients) (λ q. client_named q (with_client client node.clients))
       (known_same name knowns) (kept_client client a.client_name) all a
 
-  client_goes : (down : Bool) (luck : node_turns.Luck) → Ready exit least node.core →
+  client_goes : (down : Bool) (luck : node_turns.LineLuck) → Ready exit least node.core →
       IsPrefixOf (client_turn_by down luck name node).node.core.history exit →
       TurnGoes exit least knowns node (StepClient name) (client_turn_by down luck name node)
   client_goes true luck l p =
@@ -594,7 +594,7 @@ module _ (exit : List Entry) (least : ℕ) (knowns : List Known) (node : Node) (
   indexer_said_goes None i new log g same = unsaid_goes exit least knowns node (StepIndexer i) new
   indexer_said_goes (Some o) i new log g same = other_goes (StepIndexer i) _ new log g same refl tt
 
-  indexer_goes : (down : Bool) (luck : node_turns.Luck) (i : ℕ) → TurnGoes exit least knowns node (StepIndexer i) (indexer_turn_by down luck i node)
+  indexer_goes : (down : Bool) (luck : node_turns.LineLuck) (i : ℕ) → TurnGoes exit least knowns node (StepIndexer i) (indexer_turn_by down luck i node)
   indexer_goes true luck i = other_goes (StepIndexer i) _ node refl (same_grows node.core node.core refl) refl refl tt
   indexer_goes false luck i =
       let step = step_indexer (indexing_luck luck) node.log (indexer_at node.indexers i) node.core in
@@ -610,13 +610,13 @@ module _ (exit : List Entry) (least : ℕ) (knowns : List Known) (node : Node) (
   deleter_said_goes aim None new log g same = unsaid_goes exit least knowns node StepDeleter new
   deleter_said_goes aim (Some o) new log g same = other_goes StepDeleter _ new log g same refl tt
 
-  merger_goes : (down : Bool) (luck : node_turns.Luck) → TurnGoes exit least knowns node StepMerger (worker_turn_by down Merging node.merger with_merger luck node)
+  merger_goes : (down : Bool) (luck : node_turns.LineLuck) → TurnGoes exit least knowns node StepMerger (worker_turn_by down Merging node.merger with_merger luck node)
   merger_goes true luck = other_goes StepMerger _ node refl (same_grows node.core node.core refl) refl refl tt
   merger_goes false luck =
       let step = step_worker Merging (working_luck luck) node.log node.merger node.core in
       worker_said_goes Merging step.outcome (worker_stepped Merging with_merger node step).node refl (worker_moves (working_luck luck) node.log node.core Merging node.merger).later.grows refl
 
-  deleter_goes : (down : Bool) (luck : node_turns.Luck) → TurnGoes exit least knowns node StepDeleter (worker_turn_by down Deleting node.deleter with_deleter luck node)
+  deleter_goes : (down : Bool) (luck : node_turns.LineLuck) → TurnGoes exit least knowns node StepDeleter (worker_turn_by down Deleting node.deleter with_deleter luck node)
   deleter_goes true luck = other_goes StepDeleter _ node refl (same_grows node.core node.core refl) refl refl tt
   deleter_goes false luck =
       let step = step_worker Deleting (working_luck luck) node.log node.deleter node.core in
@@ -627,7 +627,7 @@ module _ (exit : List Entry) (least : ℕ) (knowns : List Known) (node : Node) (
   collector_said_goes None core g = unsaid_goes exit least knowns node StepCollector (record node { core = core })
   collector_said_goes (Some o) core g = other_goes StepCollector _ (record node { core = core }) refl g refl refl tt
 
-  collector_goes : (down : Bool) (luck : node_turns.Luck) → TurnGoes exit least knowns node StepCollector (collector_turn_by down luck node)
+  collector_goes : (down : Bool) (luck : node_turns.LineLuck) → TurnGoes exit least knowns node StepCollector (collector_turn_by down luck node)
   collector_goes true luck = other_goes StepCollector _ node refl (same_grows node.core node.core refl) refl refl tt
   collector_goes false luck =
       let step = step_collector (collecting_luck luck) node.core in
@@ -639,7 +639,7 @@ module _ (exit : List Entry) (least : ℕ) (knowns : List Known) (node : Node) (
   assign_goes (staged held) i names indexer = other_goes (Assign i names) _ node refl (same_grows node.core node.core refl) refl refl tt
   assign_goes (uploaded held) i names indexer = other_goes (Assign i names) _ node refl (same_grows node.core node.core refl) refl refl tt
 
-  full_goes : (luck : node_turns.Luck) (line : Line) → Ready exit least node.core →
+  full_goes : (luck : node_turns.LineLuck) (line : Line) → Ready exit least node.core →
       IsPrefixOf (full_turn luck node line).node.core.history exit → TurnGoes exit least knowns node line (full_turn luck node line)
   full_goes luck (At m) l p =
       let new = (full_turn luck node (At m)).node in other_goes (At m) _ new refl (same_grows node.core new.core refl) refl refl tt
@@ -662,14 +662,14 @@ module _ (exit : List Entry) (least : ℕ) (knowns : List Known) (node : Node) (
   quiet_goes true line t g = unsaid_goes exit least knowns node line (quiet line t.node)
   quiet_goes false line t g = g refl
 
-  by_goes : (b : Bool) (luck : node_turns.Luck) (line : Line) → Ready exit least node.core →
+  by_goes : (b : Bool) (luck : node_turns.LineLuck) (line : Line) → Ready exit least node.core →
       IsPrefixOf (turn_by b luck node line).node.core.history exit → TurnGoes exit least knowns node line (turn_by b luck node line)
   by_goes true luck line l p = unsaid_goes exit least knowns node line (quiet line node)
   by_goes false luck line l p =
       quiet_goes luck.short line (full_turn luck node line)
       (λ e. full_goes luck line l (subst (λ b. IsPrefixOf (or_quiet b line (full_turn luck node line)).node.core.history exit) e p))
 
-  turn_goes : (luck : node_turns.Luck) (line : Line) → Ready exit least node.core →
+  turn_goes : (luck : node_turns.LineLuck) (line : Line) → Ready exit least node.core →
       IsPrefixOf (turn_with luck node line).node.core.history exit → TurnGoes exit least knowns node line (turn_with luck node line)
   turn_goes luck line l p = by_goes luck.early luck line l p
 

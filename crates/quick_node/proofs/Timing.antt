@@ -8,11 +8,11 @@ use Rattle.index_world.specs.Calls.{Effect, done_at_once, done_late, done_never,
 use Rattle.index_world.specs.Collecting.{Offer, adopted_offer, answered_by, appended_if, doom_call, doom_next, doomed_by, first_offer, is_swept, last_offer, list_call, next_doomed, nothing, offer_unless, removal_offer, stale_offer, sweep_call, sweep_if, transact_if, with_doomed}
 use Rattle.index_world.specs.Core.{Core}
 use Rattle.split_collector.specs.Outcomes.{Outcome as CollectorOutcome}
-use Rattle.split_collector.specs.Steps.{CallLuck, Luck as CollectingLuck, alone, end_at, ends_behind, first_fate, max_calls, other_fates, step_collector, turned}
+use Rattle.split_collector.specs.Steps.{CallLuck, CollectorLuck as CollectingLuck, alone, end_at, ends_behind, first_fate, max_calls, other_fates, step_collector, turned}
 use Rattle.split_collector.specs.Turns.{Turn as CollectorTurn, ended, to_doom, to_list, to_mark, to_remove, to_sweep}
 use Rattle.upkeep_run.specs.declared.work.Aim.TheVariants.{Deleting, Merging}
 use Rattle.node_run.specs.Node.{Node, Line, At, Assign, StepIndexer, RestartIndexer, RestartClient, StepMerger, RestartMerger, StepDeleter, RestartDeleter, StepCollector, RestartCollector, RestartNode, Open, StepClient, Outcome}
-use Rattle.node_run.specs.Turns.{Luck, client_named, client_turn_by, collecting_luck, collector_turn_by, full_turn, indexer_at, indexer_turn_by, indexing_luck, or_quiet, searching_luck, turn_by, with_deleter, with_merger, worker_turn_by, working_luck, Turn}
+use Rattle.node_run.specs.Turns.{LineLuck, client_named, client_turn_by, collecting_luck, collector_turn_by, full_turn, indexer_at, indexer_turn_by, indexing_luck, or_quiet, searching_luck, turn_by, with_deleter, with_merger, worker_turn_by, working_luck, Turn}
 use Rattle.index_world.proofs.Worlds.{same-landed}
 use Rattle.node_run.proofs.CollectorMoves.{answered_same, unmade_same}
 use Rattle.node_run.proofs.Moving.{assign_same, open_same, restart_same}
@@ -207,7 +207,7 @@ abbrev pub Rises : ℕ → Line → Type 0
 Rises clock (At moment) = clock ≤ moment
 Rises clock line = ⊤
 
-module _ (luck : Luck) (node : Node) (t : IsTimed node.core) where
+module _ (luck : LineLuck) (node : Node) (t : IsTimed node.core) where
   at_timed : (moment : ℕ) → node.core.clock ≤ moment → IsTimed (record (node.core) { clock = moment })
   at_timed moment le = let low = t.least in let high = t.most in record { asks = t.asks; least = low; most = omega (arith, le, high) }
 

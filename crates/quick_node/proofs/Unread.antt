@@ -18,13 +18,13 @@ use Rattle.quick_node.specs.Serve.{Before, After, Shows, ShowsAfter, EntersAs, D
 use Rattle.quick_node.specs.declared.error_line.End.TheVariants as ended
 use Rattle.quick_node.specs.declared.reporting.Report.{Report}
 use Rattle.quick_node.proofs.Calmed.{reader_counts}
-use Rattle.quick_node.proofs.Driven.{unread_along, begins, returned}
+use Rattle.quick_node.proofs.DriveClause.{unread_along, begins, returned}
 use Rattle.quick_node.proofs.Finding.{some_moment}
-use Rattle.quick_node.proofs.Founded.{created_after}
+use Rattle.quick_node.proofs.CreateClause.{created_after}
 use Rattle.quick_node.proofs.LongerLog.{index_longer}
-use Rattle.quick_node.proofs.Printed.{reported_after}
+use Rattle.quick_node.proofs.ReportClause.{reported_after}
 use Rattle.quick_node.proofs.Reached.{landed_stand}
-use Rattle.quick_node.proofs.UpToLast.{met_unread, silent_short}
+use Rattle.quick_node.proofs.BeforeLastLine.{met_unread, silent_short}
 
 -- ---- the status
 

@@ -10,7 +10,7 @@ use Rattle.index_world.specs.Core.{Core, last_count}
 use Rattle.index_world.specs.Gate.{raise_call, replace_call, stage_act, stage_call}
 use Rattle.upkeep_run.specs.Outcomes.{UpkeepOutcome}
 use Rattle.upkeep_run.specs.Places.{Held, Place, Work, fetching, held_facts, held_file, idle, staged, uploaded}
-use Rattle.upkeep_run.specs.Steps.{Luck, Stepped, drops_none, fetch_by, first_number, grace_in, held_of, lost_outcome, or_short, plan_by, plan_with, raise_by, replace_by, rows_in, stage_by, stage_outcome, step_close, step_place, step_raise, step_stage, step_work, step_worker, trouble_outcome, upload_by, work_in}
+use Rattle.upkeep_run.specs.Steps.{WorkerLuck, Stepped, drops_none, fetch_by, first_number, grace_in, held_of, lost_outcome, or_short, plan_by, plan_with, raise_by, replace_by, rows_in, stage_by, stage_outcome, step_close, step_place, step_raise, step_stage, step_work, step_worker, trouble_outcome, upload_by, work_in}
 use Rattle.upkeep_run.specs.declared.work.Aim.{Aim}
 use Rattle.upkeep_run.specs.declared.work.Aim.TheVariants.{Deleting, Merging}
 use Rattle.quick_node.specs.Faults.{Interval, worker_told}
@@ -77,7 +77,7 @@ module _ (low : ℕ) (core : Core) where
 
 -- ---- a step
 
-module _ (luck : Luck) (log : Log) (core : Core) (bound : core.store_faults ≤ last_count) where
+module _ (luck : WorkerLuck) (log : Log) (core : Core) (bound : core.store_faults ≤ last_count) where
   abbrev low : ℕ
   low = core.store_faults
 

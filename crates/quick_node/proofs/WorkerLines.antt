@@ -12,11 +12,11 @@ use Rattle.root_search.specs.declared.outcome.SearchStep.{SearchStep}
 use Rattle.split_collector.specs.Outcomes.{Outcome as CollectorOutcome}
 use Rattle.upkeep_run.specs.Outcomes.{UpkeepOutcome}
 use Rattle.upkeep_run.specs.Places.{Place, idle}
-use Rattle.upkeep_run.specs.Steps.{Luck, step_worker}
+use Rattle.upkeep_run.specs.Steps.{WorkerLuck, step_worker}
 use Rattle.upkeep_run.specs.declared.work.Aim.{Aim}
 use Rattle.upkeep_run.specs.declared.work.Aim.TheVariants.{Merging, Deleting}
 use Rattle.node_run.specs.Node.{Node, Line, At, Assign, StepIndexer, RestartIndexer, RestartClient, StepMerger, RestartMerger, StepDeleter, RestartDeleter, StepCollector, RestartCollector, RestartNode, Open, StepClient, Outcome, client_said, collector_said, indexer_said, worker_said, worker_restarted, node_restarted, node_failed, world_fault, no_index}
-use Rattle.node_run.specs.Turns.{Luck as LineLuck, Turn, Turned, assign_at, client_named, client_turn_by, collector_turn_by, full_turn, indexer_at, indexer_turn_by, open_by, or_quiet, restart_by, said_by_client, said_by_collector, said_by_indexer, said_by_worker, turn_by, with_deleter, with_merger, worker_turn_by, working_luck}
+use Rattle.node_run.specs.Turns.{LineLuck as LineLuck, Turn, Turned, assign_at, client_named, client_turn_by, collector_turn_by, full_turn, indexer_at, indexer_turn_by, open_by, or_quiet, restart_by, said_by_client, said_by_collector, said_by_indexer, said_by_worker, turn_by, with_deleter, with_merger, worker_turn_by, working_luck}
 
 -- ---- a worker, and its lines
 
@@ -65,7 +65,7 @@ pub record Steps (aim : Aim) (node : Node) (line : Line) (outcome : Outcome) (ne
   pub line_is : line ≡ step_line aim
   pub said : UpkeepOutcome
   pub is : outcome ≡ worker_said aim said
-  pub luck : Luck
+  pub luck : WorkerLuck
   pub answers : (step_worker aim luck node.log (worker_at aim node) node.core).outcome ≡ Some said
   pub place : (step_worker aim luck node.log (worker_at aim node) node.core).place ≡ worker_at aim new
   pub core : (step_worker aim luck node.log (worker_at aim node) node.core).core ≡ new.core
@@ -120,7 +120,7 @@ module _ (aim : Aim) (node : Node) (line : Line) where
   other_leaves who (Some said) new apart same = leaves (worker_said who said) new apart same
 
   -- its own
-  own_steps : (luck : Luck) (said : Option UpkeepOutcome) (new : Node) → line ≡ step_line aim → (step_worker aim luck node.log (worker_at aim node) node.core).outcome ≡ said →
+  own_steps : (luck : WorkerLuck) (said : Option UpkeepOutcome) (new : Node) → line ≡ step_line aim → (step_worker aim luck node.log (worker_at aim node) node.core).outcome ≡ said →
       (step_worker aim luck node.log (worker_at aim node) node.core).place ≡ worker_at aim new → (step_worker aim luck node.log (worker_at aim node) node.core).core ≡ new.core →
       LineIs (record { said = said_by_worker aim said; node = new })
   own_steps luck None new line_is answers place core = unsaid new

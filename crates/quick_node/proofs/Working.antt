@@ -180,7 +180,7 @@ work_short_same : (b : Bool) (step : working.Stepped) → (working.or_short b st
 work_short_same true step = refl
 work_short_same false step = refl
 
-module _ (luck : working.Luck) (log : Log) (core : Core) where
+module _ (luck : working.WorkerLuck) (log : Log) (core : Core) where
   staging_works : (held : ℕ → workers.Held) → Works core (working.step_stage luck held core).core
   staging_works held = work_same (work_few (appended_few (stage_act [] (workers.held_facts (held 0))) (λ c. tt) luck.world core)) (staged_same _ held _)
 

@@ -13,7 +13,7 @@ use Rattle.index_world.specs.Configuration.{configuration}
 use Rattle.index_world.specs.Core.{Core, last_count}
 use Rattle.index_world.specs.Index.{IsIndexOf}
 use Rattle.index_world.specs.Seen.{visible_at}
-use Rattle.index_world.specs.Standing.{StandsFor}
+use Rattle.index_world.specs.Standing.{IsCoreOf}
 use Rattle.indexing_run.specs.Outcomes.{words}
 use Rattle.indexing_run.specs.Places.{Indexer}
 use Rattle.root_search.specs.Answer.{answer}
@@ -160,7 +160,7 @@ HasEnd before after lines out_of_memory = Reads (length before.log_faults) befor
 
 -- a node as the call begins, before it reads the journal
 pub record IsFresh (before : Before) (history : List Entry) (node : Node) : Type 0 where
-  pub stands : StandsFor before.kept node.core
+  pub stands : IsCoreOf before.kept node.core
   pub is : node ≡ opened_node (record {
     log = before.log;
     log_faults = before.log_faults;
@@ -265,7 +265,7 @@ log_faults_of indexer = indexer.log_faults
 pub record IsShown (after : After) (node : Node) : Type 0 where
   pub store_count : node.core.store_faults ≡ after.store_faults
   pub log_count : map log_faults_of node.indexers ≡ after.log_faults
-  pub stands : StandsFor after.kept node.core
+  pub stands : IsCoreOf after.kept node.core
 
 -- ---- the searches, without a node
 

@@ -38,7 +38,7 @@ use std::thread::Threads;
 
 /// How a call of `serve` ended, the store, its count of faults, and the sum of the logs' counts, at most 2 ^ 64 - 1.
 #[derive(Drop)]
-pub struct Finished<S> {
+pub struct Served<S> {
     pub status: u8,
     pub store: S,
     pub store_faults: u64,
@@ -68,7 +68,7 @@ fn ended<S: ObjectStore, L: SourceLog, W: Sink>(
     logs: Logs<L>,
     end: End,
     output: &mut W,
-) -> (Finished<S>, Logs<L>)
+) -> (Served<S>, Logs<L>)
     ensures store { result.0.store ≡ store }
     ensures store_faults { result.0.store_faults ≡ S.fault_count store }
     ensures logs { logs_in result.1 ≡ logs_in logs }
@@ -83,7 +83,7 @@ fn ended<S: ObjectStore, L: SourceLog, W: Sink>(
     let log_faults = logs.faults();
     let status = write_end(alloc, &end, output);
     mem::drop(end);
-    let finished = Finished {
+    let finished = Served {
         status,
         store,
         store_faults,
@@ -98,7 +98,7 @@ fn refuse<S: ObjectStore, L: SourceLog, W: Sink>(
     store: S,
     logs: Vec<L>,
     output: &mut W,
-) -> (Finished<S>, Logs<L>)
+) -> (Served<S>, Logs<L>)
     ensures store { result.0.store ≡ store }
     ensures store_faults { result.0.store_faults ≡ S.fault_count store }
     ensures logs { logs_in result.1 ≡ logs.items }
@@ -118,7 +118,7 @@ fn drive_node<Rt: Threads + Sync, S: ObjectStore, L: SourceLog, R: Source, W: Si
     node: DriveNode<S, L>,
     input: &mut R,
     output: &mut W,
-) -> (Finished<S>, Logs<L>)
+) -> (Served<S>, Logs<L>)
     ensures drives { (history : List Entry) (before : Before) (firsts : List L) (fresh opened : Node) → IsFresh before history fresh → Opens fresh (Ok tt) opened → BeginsAlong fresh opened →
         NodeStands L.told L.fault_count L.since firsts node opened →
         StreamsShow R.left R.fault_count W.content W.fault_count input.old output.old before →
@@ -146,7 +146,7 @@ fn drive_world<Rt: Threads + Sync, S: ObjectStore, L: SourceLog, R: Source, W: S
     logs: Vec<L>,
     input: &mut R,
     output: &mut W,
-) -> (Finished<S>, Logs<L>)
+) -> (Served<S>, Logs<L>)
     ensures drives { (history : List Entry) (before : Before) (fresh opened : Node) → IsFresh before history fresh → Opens fresh (Ok tt) opened → BeginsAlong fresh opened →
         WorldStands world opened.core before.log → IsLog before.log → LogsShow L.told L.fault_count logs.items before →
         StreamsShow R.left R.fault_count W.content W.fault_count input.old output.old before →
@@ -182,7 +182,7 @@ fn drive<Rt: Threads + Sync, S: ObjectStore, L: SourceLog, R: Source, W: Sink>(
     logs: Vec<L>,
     input: &mut R,
     output: &mut W,
-) -> (Finished<S>, Logs<L>)
+) -> (Served<S>, Logs<L>)
     ensures drives { (history : List Entry) (before : Before) →
         Shows S.told S.fault_count L.told L.fault_count R.left R.fault_count W.content W.fault_count store logs.items input.old output.old before →
         EntersAs history before →
@@ -218,7 +218,7 @@ fn create<S: ObjectStore, L: SourceLog, C: Clock, R: Source, W: Sink>(
     clock: C,
     input: &mut R,
     output: &mut W,
-) -> (Finished<S>, Logs<L>)
+) -> (Served<S>, Logs<L>)
     ensures creates { (history : List Entry) (before : Before) →
         Shows S.told S.fault_count L.told L.fault_count R.left R.fault_count W.content W.fault_count store logs.items input.old output.old before →
         EntersAs history before →
@@ -245,7 +245,7 @@ fn report<S: ObjectStore, L: SourceLog, R: Source, W: Sink>(
     logs: Vec<L>,
     _input: &R,
     output: &mut W,
-) -> (Finished<S>, Logs<L>)
+) -> (Served<S>, Logs<L>)
     ensures reports { (history : List Entry) (before : Before) →
         Shows S.told S.fault_count L.told L.fault_count R.left R.fault_count W.content W.fault_count store logs.items _input.now output.old before →
         EntersAs history before →
@@ -288,7 +288,7 @@ pub fn serve_with_logs<
     clock: C,
     input: &mut R,
     output: &mut W,
-) -> (Finished<S>, Logs<L>)
+) -> (Served<S>, Logs<L>)
     ensures { Serves S.told S.fault_count L.told L.fault_count L.since R.left R.fault_count W.content W.fault_count
         (map string_bytes words.now) store logs.items (C.told clock) input.old output.old
         result.0.store result.0.store_faults result.0.log_faults (logs_in result.1) input.new output.new result.0.status }
@@ -325,7 +325,7 @@ pub fn serve<
     clock: C,
     input: &mut R,
     output: &mut W,
-) -> Finished<S>
+) -> Served<S>
     // The same of some logs.
     ensures { (lasts : List L) × Serves S.told S.fault_count L.told L.fault_count L.since R.left R.fault_count W.content W.fault_count
         (map string_bytes words.now) store logs.items (C.told clock) input.old output.old

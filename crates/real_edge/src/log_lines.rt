@@ -29,13 +29,13 @@ impl Mark {
 
 // The lines of a file from a place on.
 #[derive(Drop)]
-struct Lines<R: Read + Drop> {
+struct LogLines<R: Read + Drop> {
     reader: BufReader<R>,
     line: Vec<u8>,
     at: Mark,
 }
 
-impl<R: Read + Drop> Lines<R> {
+impl<R: Read + Drop> LogLines<R> {
     // Takes a piece of a line, of which no more is kept than that. How many bytes it has, and whether it ends the line.
     fn take_piece(&mut self) -> io::Result<(usize, bool)> {
         let mut piece = self.reader.by_ref().take(PIECE);
@@ -98,13 +98,13 @@ fn lines_from<F: Files>(
     alloc: Global,
     mut file: F::File,
     start: Mark,
-) -> io::Result<Option<Lines<F::File>>> {
+) -> io::Result<Option<LogLines<F::File>>> {
     if let Some(before) = start.byte.checked_sub(1) {
         if before > 0 {
             file.seek(SeekFrom::Start(before))?;
         }
     }
-    let mut lines = Lines {
+    let mut lines = LogLines {
         reader: BufReader::new(alloc, file)?,
         line: Vec::new(alloc),
         at: start,
@@ -119,7 +119,7 @@ fn lines_from<F: Files>(
 // So many records from a record on, and the place behind them. None where the file ends before that record.
 fn take_records<R: Read + Drop>(
     alloc: Global,
-    lines: &mut Lines<R>,
+    lines: &mut LogLines<R>,
     from: u64,
     most: u64,
 ) -> io::Result<Option<(Records, Mark)>>

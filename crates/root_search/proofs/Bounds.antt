@@ -55,7 +55,7 @@ use Rattle.root_search.specs.Drawing.{DrawsFew, NeverFetched, counted_key, foote
 use Rattle.root_search.specs.Fetching.{DrawsNeeded, footer_drawn}
 use Rattle.root_search.specs.Footers.{entries}
 use Rattle.root_search.specs.LeafAsks.{Asks, wanted_of}
-use Rattle.root_search.specs.SplitParts.{over}
+use Rattle.root_search.specs.FetchedSplits.{over}
 use Rattle.root_search.specs.declared.leaf_asks.LeafAsk.{LeafAsk}
 use Rattle.root_search.specs.declared.outcome.SearchStep.{SearchStep}
 use Rattle.root_search.specs.declared.outcome.SearchStep.TheVariants.{Fetched}

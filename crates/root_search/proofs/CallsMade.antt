@@ -16,7 +16,7 @@ use Rattle.root_search.specs.FetchCalls.{AreFetches, AreKeptBehind, FetchCall, H
 use Rattle.root_search.specs.declared.fetching.FetchError.{FetchError}
 use Rattle.root_search.specs.declared.fetching.FetchError.TheVariants.{Memory, World, Corrupt}
 use Rattle.root_search.specs.declared.split_parts.KeptPiece.{KeptPiece}
-use Rattle.root_search.specs.declared.split_parts.SplitPart.{SplitPart}
+use Rattle.root_search.specs.declared.split_parts.FetchedSplit.{FetchedSplit}
 
 -- ---- calls behind others
 
@@ -169,9 +169,9 @@ end_given size end start len trailer front slice rest tail xs ys at long one two
 -- ---- a part
 
 -- calls for no byte behind a part
-pub part_looked : (known : Option Footer) (number size : ℕ) (part given : SplitPart) (xs ys : List FetchCall) → IsPartRead known number size part xs → IsPartLooked part given ys → IsPartRead known number size given (xs ++ ys)
+pub part_looked : (known : Option Footer) (number size : ℕ) (part given : FetchedSplit) (xs ys : List FetchCall) → IsPartRead known number size part xs → IsPartLooked part given ys → IsPartRead known number size given (xs ++ ys)
 part_looked known number size part given xs ys p l =
-    subst (λ (x : SplitPart). IsPartRead known number size x (xs ++ ys)) (sym l.same)
+    subst (λ (x : FetchedSplit). IsPartRead known number size x (xs ++ ys)) (sym l.same)
     (record {
       footer_calls = p.footer_calls;
       piece_calls = p.piece_calls;

@@ -25,7 +25,7 @@ use Rattle.index_world.specs.Calls as calls
 use Rattle.index_world.specs.Config.{read_query, reads}
 use Rattle.index_world.specs.Configuration.{index_of}
 use Rattle.index_world.specs.Core.{Core, IsConfigured}
-use Rattle.index_world.specs.Gate.{CanAsk, IsSoundCore, task_act, task_call}
+use Rattle.index_world.specs.Gate.{CanAddTask, IsSoundCore, task_act, task_call}
 use Rattle.index_world.specs.declared.tokens.DeleteAsk.{DeleteAsk}
 use Rattle.index_world.proofs.Configured.{configured_read, configured_schema}
 use Rattle.root_search.specs.Deletes.{AreTooMany, EndsInTask, task_behind}
@@ -88,7 +88,7 @@ module _ (h : History) (moment : ℕ) (ask : DeleteAsk) (refusal : Refusal) wher
       tasks_full (length (tasks_of reads h)) refusal
       (passed (answer_to_task (read_query c.settings.index ask.text ask.fields)) _ refusal (reads_task (read_query c.settings.index ask.text ask.fields) query (ap (λ (i : IndexConfig). read_query i ask.text ask.fields) same ∙ reads_so)) behind)
 
-pub too_many : (text : List ℕ) (config : IndexConfig) (deletion : Deletion) (fate : Fate) (core after : Core) (log : Log) (refusal : Refusal) → asked_of config text ≡ Ok (IsDelete deletion) → CanAsk (ask_of deletion) → IsSoundCore after log → IsConfigured config after
+pub too_many : (text : List ℕ) (config : IndexConfig) (deletion : Deletion) (fate : Fate) (core after : Core) (log : Log) (refusal : Refusal) → asked_of config text ≡ Ok (IsDelete deletion) → CanAddTask (ask_of deletion) → IsSoundCore after log → IsConfigured config after
     → task_call (ask_of deletion) fate core ≡ gives (Err (refused refusal)) after → AreTooMany refusal after.history
 too_many text config deletion fate core after log refusal asked can sound configured did =
     let is = configured_is after log config sound configured in

@@ -21,8 +21,8 @@ use Rattle.leaf_search.specs.declared.request.LeafAnswer.{LeafAnswer}
 use Rattle.leaf_search.specs.declared.request.LeafRequest.{LeafRequest}
 use Rattle.leaf_search.proofs.Suffices.{held_memory}
 use Rattle.root_search.specs.Leaves.{AllJoined, AreJoined, AreSomeOf, FailsFirst, HasAsked, HasCauseIn, IsCounted, IsFaultIn, IsFull, IsJoinOf, IsLeafAnswer, IsNoLeaf, IsRefusedIn, IsViewOf, IsWholeViewOf, LeafGives, WantsMemory, all_hits, all_of, all_ok, count_in, placed_fault}
-use Rattle.root_search.specs.declared.splits_error.SplitsError.{SplitsError}
-use Rattle.root_search.specs.declared.splits_error.SplitsError.TheVariants.{Corrupt, Memory, Missing, TooMany}
+use Rattle.root_search.specs.declared.splits_error.JoinFault.{JoinFault}
+use Rattle.root_search.specs.declared.splits_error.JoinFault.TheVariants.{Corrupt, Memory, Missing, TooMany}
 
 -- ---- one more of a list
 
@@ -262,7 +262,7 @@ long_ok : (front : List LeafAnswer) → length (all_ok front) ≡ length front
 long_ok [] = refl
 long_ok (x ∷ front) = ap suc (long_ok front)
 
-pub fault_joined : (r : LeafRequest) (answers left left' : List (Result LeafAnswer LeafError)) (place : ℕ) (all : LeafAnswer) (fault : LeafError) (e : SplitsError) → IsJoining r answers left place all → left ≡ Err fault ∷ left' → e ≡ placed_fault place fault
+pub fault_joined : (r : LeafRequest) (answers left left' : List (Result LeafAnswer LeafError)) (place : ℕ) (all : LeafAnswer) (fault : LeafError) (e : JoinFault) → IsJoining r answers left place all → left ≡ Err fault ∷ left' → e ≡ placed_fault place fault
     → IsFaultIn answers e
 fault_joined r answers left left' place all fault e j is placed =
     let long : length (all_ok j.front) + length left ≡ length answers = sym (length-append (all_ok j.front) left) ∙ ap length j.parts in
@@ -283,7 +283,7 @@ fails_at answers place fault f =
     behind [] = refl
     behind (x ∷ front) = behind front
 
-full_fault : (r : LeafRequest) (answers left left' : List (Result LeafAnswer LeafError)) (place : ℕ) (all next : LeafAnswer) (e : SplitsError) → IsJoining r answers left place all → left ≡ Ok next ∷ left' → IsFull (all.count + next.count) e
+full_fault : (r : LeafRequest) (answers left left' : List (Result LeafAnswer LeafError)) (place : ℕ) (all next : LeafAnswer) (e : JoinFault) → IsJoining r answers left place all → left ≡ Ok next ∷ left' → IsFull (all.count + next.count) e
     → IsFaultIn answers e
 full_fault r answers left left' place all next (Memory a) j is full = tt
 full_fault r answers left left' place all next TooMany j is full =
@@ -293,7 +293,7 @@ full_fault r answers left left' place all next (Missing from at) j is full = abs
 full_fault r answers left left' place all next (Corrupt from section) j is full = absurd full
 
 -- what is handed on where so many are not counted
-pub full_joined : (r : LeafRequest) (answers left left' : List (Result LeafAnswer LeafError)) (place : ℕ) (all next : LeafAnswer) (e : SplitsError) (result : Result LeafAnswer SplitsError) → IsJoining r answers left place all → left ≡ Ok next ∷ left' → IsFull (all.count + next.count) e
+pub full_joined : (r : LeafRequest) (answers left left' : List (Result LeafAnswer LeafError)) (place : ℕ) (all next : LeafAnswer) (e : JoinFault) (result : Result LeafAnswer JoinFault) → IsJoining r answers left place all → left ≡ Ok next ∷ left' → IsFull (all.count + next.count) e
     → IsErrAnd result (λ y. y ≡ e) → IfErr result (IsFaultIn answers)
 full_joined r answers left left' place all next e (Ok a) j is full h = tt
 full_joined r answers left left' place all next e (Err y) j is full h = subst (IsFaultIn answers) (sym h) (full_fault r answers left left' place all next e j is full)
@@ -379,7 +379,7 @@ at_fault s r (v ∷ views) (ds ∷ lists) (a ∷ answers) (suc place) fault leav
       is_leaf = rest.is_leaf;
     }
 
-fault_cause : (s : Schema) (r : LeafRequest) (views : List PartView) (lists : List (List Placed)) (answers : List (Result LeafAnswer LeafError)) (e : SplitsError) → AllZip (IsLeafAnswer s r) views answers → AllZip (IsViewOf s) views lists
+fault_cause : (s : Schema) (r : LeafRequest) (views : List PartView) (lists : List (List Placed)) (answers : List (Result LeafAnswer LeafError)) (e : JoinFault) → AllZip (IsLeafAnswer s r) views answers → AllZip (IsViewOf s) views lists
     → length (all_of lists) < 2 ^ 62 → IsAsked s r → IsFaultIn answers e → HasCauseIn s r views lists e
 fault_cause s r views lists answers (Memory a) leaves are few asked h = tt
 fault_cause s r views lists answers (Missing place at) leaves are few asked h =
@@ -402,7 +402,7 @@ fault_cause s r views lists answers (Corrupt place section) leaves are few asked
 fault_cause s r views lists answers TooMany leaves are few asked h =
     absurd (omega (arith, h, few, counts_few s r answers lists (are_answers s r views lists answers leaves are asked)))
 
-pub all_searched : (s : Schema) (r : LeafRequest) (views : List PartView) (lists : List (List Placed)) (answers : List (Result LeafAnswer LeafError)) (result : Result LeafAnswer SplitsError) → AllZip (IsLeafAnswer s r) views answers
+pub all_searched : (s : Schema) (r : LeafRequest) (views : List PartView) (lists : List (List Placed)) (answers : List (Result LeafAnswer LeafError)) (result : Result LeafAnswer JoinFault) → AllZip (IsLeafAnswer s r) views answers
     → ((lists : List (List Placed)) → AreAnswers s r answers lists → IfOk result (IsAnswerOf s r (all_of lists))) → IfErr result (IsFaultIn answers) → AllZip (IsViewOf s) views lists → length (all_of lists) < 2 ^ 62 → IsAsked s r
     → MatchResult result (IsAnswerOf s r (all_of lists)) (HasCauseIn s r views lists)
 all_searched s r views lists answers (Ok a) leaves ok err are few asked = ok lists (are_answers s r views lists answers leaves are asked)
@@ -429,7 +429,7 @@ whole_fault s r (v ∷ views) (ds ∷ lists) (a ∷ answers) zero fault leaves a
     (subst (IsLeafAnswer s r v) here leaves.0).there ds are.0.parts are.0.is_part are.0.all asked
 whole_fault s r (v ∷ views) (ds ∷ lists) (a ∷ answers) (suc place) fault leaves are asked h = whole_fault s r views lists answers place fault leaves.1 are.1 asked h
 
-whole_cause : (s : Schema) (r : LeafRequest) (views : List PartView) (lists : List (List Placed)) (answers : List (Result LeafAnswer LeafError)) (e : SplitsError) → AllZip (IsLeafAnswer s r) views answers → AllZip (IsWholeViewOf s) views lists
+whole_cause : (s : Schema) (r : LeafRequest) (views : List PartView) (lists : List (List Placed)) (answers : List (Result LeafAnswer LeafError)) (e : JoinFault) → AllZip (IsLeafAnswer s r) views answers → AllZip (IsWholeViewOf s) views lists
     → length (all_of lists) < 2 ^ 62 → IsAsked s r → IsFaultIn answers e → WantsMemory e
 whole_cause s r views lists answers (Memory a) leaves are few asked h = tt
 whole_cause s r views lists answers (Missing place at) leaves are few asked h = whole_fault s r views lists answers place (leaf.Missing at) leaves are asked (fails_at answers place (leaf.Missing at) h)
@@ -437,7 +437,7 @@ whole_cause s r views lists answers (Corrupt place section) leaves are few asked
 whole_cause s r views lists answers TooMany leaves are few asked h =
     absurd (omega (arith, h, few, counts_few s r answers lists (are_answers s r views lists answers leaves (whole_views s views lists are) asked)))
 
-pub whole_searched : (s : Schema) (r : LeafRequest) (views : List PartView) (lists : List (List Placed)) (answers : List (Result LeafAnswer LeafError)) (result : Result LeafAnswer SplitsError) → AllZip (IsLeafAnswer s r) views answers
+pub whole_searched : (s : Schema) (r : LeafRequest) (views : List PartView) (lists : List (List Placed)) (answers : List (Result LeafAnswer LeafError)) (result : Result LeafAnswer JoinFault) → AllZip (IsLeafAnswer s r) views answers
     → ((lists : List (List Placed)) → AreAnswers s r answers lists → IfOk result (IsAnswerOf s r (all_of lists))) → IfErr result (IsFaultIn answers) → AllZip (IsWholeViewOf s) views lists → length (all_of lists) < 2 ^ 62 → IsAsked s r
     → MatchResult result (IsAnswerOf s r (all_of lists)) WantsMemory
 whole_searched s r views lists answers (Ok a) leaves ok err are few asked = ok lists (are_answers s r views lists answers leaves (whole_views s views lists are) asked)
@@ -463,7 +463,7 @@ asked_fault s r (v ∷ views) (ds ∷ lists) (a ∷ answers) zero fault leaves a
     held_memory (AsksLeaf v s ds are.0.parts r) v.pieces fault are.0.held ((subst (IsLeafAnswer s r v) here leaves.0).only ds are.0.parts are.0.is_part asked)
 asked_fault s r (v ∷ views) (ds ∷ lists) (a ∷ answers) (suc place) fault leaves are asked h = asked_fault s r views lists answers place fault leaves.1 are.1 asked h
 
-asked_cause : (s : Schema) (r : LeafRequest) (views : List PartView) (lists : List (List Placed)) (answers : List (Result LeafAnswer LeafError)) (e : SplitsError) → AllZip (IsLeafAnswer s r) views answers → AllZip (HasAsked s r) views lists
+asked_cause : (s : Schema) (r : LeafRequest) (views : List PartView) (lists : List (List Placed)) (answers : List (Result LeafAnswer LeafError)) (e : JoinFault) → AllZip (IsLeafAnswer s r) views answers → AllZip (HasAsked s r) views lists
     → length (all_of lists) < 2 ^ 62 → IsAsked s r → IsFaultIn answers e → WantsMemory e
 asked_cause s r views lists answers (Memory a) leaves are few asked h = tt
 asked_cause s r views lists answers (Missing place at) leaves are few asked h = asked_fault s r views lists answers place (leaf.Missing at) leaves are asked (fails_at answers place (leaf.Missing at) h)
@@ -471,7 +471,7 @@ asked_cause s r views lists answers (Corrupt place section) leaves are few asked
 asked_cause s r views lists answers TooMany leaves are few asked h =
     absurd (omega (arith, h, few, counts_few s r answers lists (are_answers s r views lists answers leaves (asked_views s r views lists are) asked)))
 
-pub asked_searched : (s : Schema) (r : LeafRequest) (views : List PartView) (lists : List (List Placed)) (answers : List (Result LeafAnswer LeafError)) (result : Result LeafAnswer SplitsError) → AllZip (IsLeafAnswer s r) views answers
+pub asked_searched : (s : Schema) (r : LeafRequest) (views : List PartView) (lists : List (List Placed)) (answers : List (Result LeafAnswer LeafError)) (result : Result LeafAnswer JoinFault) → AllZip (IsLeafAnswer s r) views answers
     → ((lists : List (List Placed)) → AreAnswers s r answers lists → IfOk result (IsAnswerOf s r (all_of lists))) → IfErr result (IsFaultIn answers) → AllZip (HasAsked s r) views lists → length (all_of lists) < 2 ^ 62 → IsAsked s r
     → MatchResult result (IsAnswerOf s r (all_of lists)) WantsMemory
 asked_searched s r views lists answers (Ok a) leaves ok err are few asked = ok lists (are_answers s r views lists answers leaves (asked_views s r views lists are) asked)
@@ -518,7 +518,7 @@ no_leaf s r views answers place fault other leaves f =
       none = λ documents asked has. other (held_memory (AsksLeaf p.view s documents has.parts r) p.view.pieces fault has.held (p.failed.only documents has.parts has.is_part asked));
     }
 
-pub refused_in : (s : Schema) (r : LeafRequest) (views : List PartView) (answers : List (Result LeafAnswer LeafError)) (result : Result LeafAnswer SplitsError) → AllZip (IsLeafAnswer s r) views answers → IfErr result (IsFaultIn answers) → IfErr result (IsRefusedIn s r views)
+pub refused_in : (s : Schema) (r : LeafRequest) (views : List PartView) (answers : List (Result LeafAnswer LeafError)) (result : Result LeafAnswer JoinFault) → AllZip (IsLeafAnswer s r) views answers → IfErr result (IsFaultIn answers) → IfErr result (IsRefusedIn s r views)
 refused_in s r views answers (Ok a) leaves h = tt
 refused_in s r views answers (Err (Memory a)) leaves h = tt
 refused_in s r views answers (Err (Missing place at)) leaves h = no_leaf s r views answers place (leaf.Missing at) (λ never. never) leaves h
@@ -531,7 +531,7 @@ all_give s r [] (a ∷ given) h = absurd h
 all_give s r (v ∷ views) [] h = absurd h
 all_give s r (v ∷ views) (a ∷ given) h = (h.0, all_give s r views given h.1)
 
-pub join_of : (s : Schema) (r : LeafRequest) (views : List PartView) (answers : List (Result LeafAnswer LeafError)) (result : Result LeafAnswer SplitsError) → AllZip (IsLeafAnswer s r) views answers → IfOk result (AllJoined r answers) → IfOk result (IsJoinOf s r views)
+pub join_of : (s : Schema) (r : LeafRequest) (views : List PartView) (answers : List (Result LeafAnswer LeafError)) (result : Result LeafAnswer JoinFault) → AllZip (IsLeafAnswer s r) views answers → IfOk result (AllJoined r answers) → IfOk result (IsJoinOf s r views)
 join_of s r views answers (Ok all) leaves h =
     record { answers = h.0; are_leaves = all_give s r views h.0 (subst (λ (l : List (Result LeafAnswer LeafError)). AllZip (IsLeafAnswer s r) views l) h.1 leaves); joined = h.2 }
 join_of s r views answers (Err e) leaves h = tt

@@ -13,7 +13,7 @@ use Rattle.leaf_search.specs.declared.file_ranges.FileRange.{FileRange}
 use Rattle.split_bundle.specs.declared.footer.Footer.{Footer}
 use Rattle.root_search.specs.Footers.{KeepsMore, entries}
 use Rattle.root_search.specs.Searching.{AreKept, IsKept}
-use Rattle.root_search.specs.SplitParts.{IsFooterIn, IsKnown, piece_at, pieces_at}
+use Rattle.root_search.specs.FetchedSplits.{IsFooterIn, IsKnown, piece_at, pieces_at}
 use Rattle.root_search.specs.declared.footers.Footers.{Footers}
 use Rattle.root_search.specs.declared.split_parts.KeptPiece.{KeptPiece}
 

@@ -16,7 +16,7 @@ use Rattle.root_search.specs.declared.planned.Planned.{Planned as GivenPlan}
 use Rattle.root_search.specs.declared.searcher.Request.{Request}
 use Rattle.root_search.specs.declared.searcher.Request.TheVariants as requests
 use Rattle.root_search.specs.declared.searcher.Searcher.{Searcher}
-use Rattle.root_search.specs.declared.split_parts.SplitPart.{SplitPart}
+use Rattle.root_search.specs.declared.split_parts.FetchedSplit.{FetchedSplit}
 
 -- without memory
 pub works_short : (old new : Searcher) (r : Result SearchStep AllocError) → IsErr r → new.client ≡ old.client → new.front ≡ old.front → new.request ≡ requests.Vacant → Works old r new
@@ -33,13 +33,13 @@ works_planned old new revision count planned is =
     subst (Works old (Ok (Planned revision count))) (sym is) (record { client = refl; own = refl; request = (planned, refl); footers = λ number footer kept. inl kept })
 
 -- behind a part that was fetched
-pub works_fetched : (old new : Searcher) (taken kept : Footers) (number : ℕ) (planned : GivenPlan) (parts : List SplitPart) (part : SplitPart) → new ≡ record old { footers = kept; request = requests.Planned planned } → planned.parts ≡ parts ++ part ∷ [] → part.number ≡ number
+pub works_fetched : (old new : Searcher) (taken kept : Footers) (number : ℕ) (planned : GivenPlan) (parts : List FetchedSplit) (part : FetchedSplit) → new ≡ record old { footers = kept; request = requests.Planned planned } → planned.parts ≡ parts ++ part ∷ [] → part.number ≡ number
     → entries taken ≡ remove_entry (nat_eq number) (entries old.footers) → KeepsMore (entries taken) (entries kept) number part.footer → Works old (Ok (Fetched number)) new
 works_fetched old new taken kept number planned parts part is more same left keeps =
     subst (Works old (Ok (Fetched number))) (sym is) (record { client = refl; own = refl; request = (planned, refl); footers = footers })
   where
     among : Contains planned.parts part
-    among = subst (λ (ps : List SplitPart). Contains ps part) (sym more) (Contains-push parts part)
+    among = subst (λ (ps : List FetchedSplit). Contains ps part) (sym more) (Contains-push parts part)
 
     footers : KeepsFooters old.footers kept (requests.Planned planned)
     footers n f there = elim (keeps n f there) [

@@ -27,11 +27,11 @@ use Rattle.split_bundle.specs.declared.part_view.PartView.{PartView}
 use Rattle.split_bundle.specs.declared.placed.Placed.{Placed}
 use Rattle.doc_value.specs.declared.schema.Schema.{Schema}
 use Rattle.root_search.specs.Fetching.{AreBlocksFetched, AreListsFetched, AreShownFetched, AreStartsNamed, FetchesAs, IsFileAt, IsFooterFetched, IsLooked, IsPartFetched, WantsRoom, footer_calls, footer_drawn, needed_calls, part_calls}
-use Rattle.root_search.specs.SplitParts.{HoldsBlocks, HoldsListed, HoldsStarts, IsFooterIn, over, piece_at, pieces_at}
+use Rattle.root_search.specs.FetchedSplits.{HoldsBlocks, HoldsListed, HoldsStarts, IsFooterIn, over, piece_at, pieces_at}
 use Rattle.root_search.specs.declared.fetching.FetchError.{FetchError}
 use Rattle.root_search.specs.declared.fetching.ShownStarts.{ShownStarts}
 use Rattle.root_search.specs.declared.split_parts.KeptPiece.{KeptPiece}
-use Rattle.root_search.specs.declared.split_parts.SplitPart.{SplitPart}
+use Rattle.root_search.specs.declared.split_parts.FetchedSplit.{FetchedSplit}
 use Rattle.root_search.proofs.Fetches.{AddsMore, all_done, file_stands, made_of, then_failed, then_given}
 use Rattle.root_search.proofs.SameFooters.{starts_alike}
 use Rattle.root_search.proofs.Stands.{configured_after}
@@ -156,7 +156,7 @@ whole_part Stands Between Adds bytes_fetched adds config plan place known docume
 
 -- the same, where the last fetches fail
 pub lost_last : {W : Type 0} (Stands : W → Core → Log → Type 0) (Between : Core → Core → Type 0) (Adds : W → List CallMade → W → Type 0) (bytes_fetched : W → ℕ) → AddsMore Adds → (config : IndexConfig) (plan : Plan) (place : ℕ) (known : Option Footer) (documents : List Placed) (p : Parts) (r : LeafRequest) (core : Core) (log : Log)
-    (result : Result SplitPart FetchError) (e : FetchError) (footer : Footer) (kept listed : List KeptPiece) (old mid further behind new : W) → IsConfigured config core → (file : IsFileAt core (grace_of config plan).until plan place (file_bytes p)) → IsSplitOf config.schema documents p
+    (result : Result FetchedSplit FetchError) (e : FetchError) (footer : Footer) (kept listed : List KeptPiece) (old mid further behind new : W) → IsConfigured config core → (file : IsFileAt core (grace_of config plan).until plan place (file_bytes p)) → IsSplitOf config.schema documents p
     → FetchesAs (grace_of config plan) file.row.number Stands Between Adds bytes_fetched (IsFooterFetched known p) (Ok footer) core log old mid
     → (IsFooterOf p footer → (after : Core) → Stands mid after log → IsConfigured config after → (there : IsFileAt after (grace_of config plan).until plan place (file_bytes p)) → FetchesAs (grace_of config plan) there.row.number Stands Between Adds bytes_fetched (AreBlocksFetched config.schema r documents p footer) (Ok kept) after log mid further)
     → (IsFooterOf p footer → (after : Core) → Stands further after log → IsConfigured config after → (there : IsFileAt after (grace_of config plan).until plan place (file_bytes p)) → HoldsBlocks config.schema r documents p footer kept
@@ -260,13 +260,13 @@ all_known : (was : Bool) (n : ℕ) (b : Bool) → was ≡ true → b ≡ (was &&
 all_known true n b w e = e
 all_known false n b w e = absurd (cc)
 
-pub once_more : (known : Option Footer) (part : SplitPart) (was b : Bool) → was ≡ is_some known → b ≡ (was && (length part.pieces == 0)) → b ≡ true → needed_calls known part + 1 ≡ part_calls known part
+pub once_more : (known : Option Footer) (part : FetchedSplit) (was b : Bool) → was ≡ is_some known → b ≡ (was && (length part.pieces == 0)) → b ≡ true → needed_calls known part + 1 ≡ part_calls known part
 once_more None part was b w e t = absurd (none_known was (length part.pieces) b w e t)
 once_more (Some f) part was b w e t =
     let none : length part.pieces ≡ 0 = eqb-true (length part.pieces) 0 (sym (all_known was (length part.pieces) b w e) ∙ t) in
     omega (arith, none)
 
-pub no_more : (known : Option Footer) (part : SplitPart) (was b : Bool) → was ≡ is_some known → b ≡ (was && (length part.pieces == 0)) → b ≡ false → needed_calls known part ≡ part_calls known part
+pub no_more : (known : Option Footer) (part : FetchedSplit) (was b : Bool) → was ≡ is_some known → b ≡ (was && (length part.pieces == 0)) → b ≡ false → needed_calls known part ≡ part_calls known part
 no_more None part was b w e t = omega arith
 no_more (Some f) part was b w e t =
     let most = by (length part.pieces) (sym (all_known was (length part.pieces) b w e) ∙ t) in
@@ -277,10 +277,10 @@ no_more (Some f) part was b w e t =
     by (suc n) h = omega arith
 
 -- the part that was looked for once more
-pub looked_part : (s : Schema) (r : LeafRequest) (known : Option Footer) (documents : List Placed) (p : Parts) (part given : SplitPart) (many n drawn d : ℕ) → IsPartFetched s r known documents p (needed_calls known) part many drawn → IsLooked part given n d
+pub looked_part : (s : Schema) (r : LeafRequest) (known : Option Footer) (documents : List Placed) (p : Parts) (part given : FetchedSplit) (many n drawn d : ℕ) → IsPartFetched s r known documents p (needed_calls known) part many drawn → IsLooked part given n d
     → needed_calls known part + 1 ≡ part_calls known part → IsPartFetched s r known documents p (part_calls known) given (needed_calls known part + n) (drawn + d)
 looked_part s r known documents p part given many n drawn d k h count =
-    subst (λ (x : SplitPart). IsPartFetched s r known documents p (part_calls known) x (needed_calls known part + n) (drawn + d)) (sym h.same)
+    subst (λ (x : FetchedSplit). IsPartFetched s r known documents p (part_calls known) x (needed_calls known part + n) (drawn + d)) (sym h.same)
     (record {
       needed = k.needed;
       footer = k.footer;

@@ -33,9 +33,9 @@ use Rattle.leaf_search.proofs.ReadBounds.{column_between}
 use Rattle.leaf_search.proofs.ShownParts.{shown_below}
 use Rattle.leaf_search.proofs.Suffices.{behind_there, document_within, else_there, inside_there, none, wider_part}
 use Rattle.root_search.specs.Leaves.{HasAsked}
-use Rattle.root_search.specs.SplitParts.{HasNeeded, HoldsBlocks, HoldsListed, HoldsStarts, IsLentOf, over, piece_at, pieces_at}
+use Rattle.root_search.specs.FetchedSplits.{HasNeeded, HoldsBlocks, HoldsListed, HoldsStarts, IsLentOf, over, piece_at, pieces_at}
 use Rattle.root_search.specs.declared.split_parts.KeptPiece.{KeptPiece}
-use Rattle.root_search.specs.declared.split_parts.SplitPart.{SplitPart}
+use Rattle.root_search.specs.declared.split_parts.FetchedSplit.{FetchedSplit}
 use Rattle.root_search.proofs.SameFooters.{blocks_alike, listed_alike, starts_alike}
 
 -- ---- pieces of a file
@@ -152,7 +152,7 @@ some_of P xs ys (inr h) = some_behind P xs ys h
 kept_held : (p : Parts) (kept : List KeptPiece) (v : PartView) (rs : List FileRange) → kept ≡ pieces_at (file_bytes p) rs → AllZip IsLentOf kept v.pieces → (at len : ℕ) → at + len ≤ length (file_bytes p) → SomeRange (HasPart at len) rs → held_in v.pieces at len ≢ none
 kept_held p kept v rs pieces lent at len within has = part_kept (file_bytes p) rs v.pieces at len (subst (λ (ks : List KeptPiece). AllZip IsLentOf ks v.pieces) pieces lent) within has
 
-pub has_asked : (s : Schema) (r : LeafRequest) (part : SplitPart) (documents : List Placed) (v : PartView) → IsAsked s r → HasNeeded s r part documents → v.footer ≡ part.footer → AllZip IsLentOf part.pieces v.pieces → HasAsked s r v documents
+pub has_asked : (s : Schema) (r : LeafRequest) (part : FetchedSplit) (documents : List Placed) (v : PartView) → IsAsked s r → HasNeeded s r part documents → v.footer ≡ part.footer → AllZip IsLentOf part.pieces v.pieces → HasAsked s r v documents
 has_asked s r part ds v ask h same lent =
     let p = h.parts in
     let rs : List FileRange = (h.blocks ++ h.listed) ++ (h.starts ++ h.shown) in

@@ -10,65 +10,65 @@ use Rattle.split_bundle.specs.declared.part_view.PartView.{PartView}
 use Rattle.split_bundle.specs.declared.placed.Placed.{Placed}
 use Rattle.root_search.specs.Leaves.{HasAsked}
 use Rattle.root_search.specs.PartAnswers.{IsViewOfPart}
-use Rattle.root_search.specs.SplitParts.{HasNeeded, IsParted, beside_footer}
-use Rattle.root_search.specs.declared.split_parts.KeptSplit.{KeptSplit}
-use Rattle.root_search.specs.declared.split_parts.SplitPart.{SplitPart}
+use Rattle.root_search.specs.FetchedSplits.{HasNeeded, IsParted, beside_footer}
+use Rattle.root_search.specs.declared.split_parts.FetchedPieces.{FetchedPieces}
+use Rattle.root_search.specs.declared.split_parts.FetchedSplit.{FetchedSplit}
 use Rattle.root_search.proofs.PartViews.{has_asked}
 use Rattle.root_search.proofs.Zipped.{zip_last}
 
 -- ---- parting
 
 -- so many have parted, and these are left
-pub record IsParting (parts : List SplitPart) (footers : List Footer) (splits : List KeptSplit) (left : List SplitPart) : Type 0 where
-  pub footers_are : map (λ (part : SplitPart). part.footer) parts ≡ footers ++ map (λ (part : SplitPart). part.footer) left
+pub record IsParting (parts : List FetchedSplit) (footers : List Footer) (splits : List FetchedPieces) (left : List FetchedSplit) : Type 0 where
+  pub footers_are : map (λ (part : FetchedSplit). part.footer) parts ≡ footers ++ map (λ (part : FetchedSplit). part.footer) left
   pub splits_are : map beside_footer parts ≡ splits ++ map beside_footer left
 
-pub parting_begun : (parts : List SplitPart) (footers : List Footer) (splits : List KeptSplit) (left : List SplitPart) → left ≡ parts → footers ≡ [] → splits ≡ [] → IsParting parts footers splits left
+pub parting_begun : (parts : List FetchedSplit) (footers : List Footer) (splits : List FetchedPieces) (left : List FetchedSplit) → left ≡ parts → footers ≡ [] → splits ≡ [] → IsParting parts footers splits left
 parting_begun parts footers splits left e f k =
-    let fs : List Footer = map (λ (part : SplitPart). part.footer) left in
-    let ks : List KeptSplit = map beside_footer left in
+    let fs : List Footer = map (λ (part : FetchedSplit). part.footer) left in
+    let ks : List FetchedPieces = map beside_footer left in
     record {
-      footers_are = ap (map (λ (part : SplitPart). part.footer)) (sym e) ∙ ap (λ (l : List Footer). l ++ fs) (sym f);
-      splits_are = ap (map beside_footer) (sym e) ∙ ap (λ (l : List KeptSplit). l ++ ks) (sym k);
+      footers_are = ap (map (λ (part : FetchedSplit). part.footer)) (sym e) ∙ ap (λ (l : List Footer). l ++ fs) (sym f);
+      splits_are = ap (map beside_footer) (sym e) ∙ ap (λ (l : List FetchedPieces). l ++ ks) (sym k);
     }
 
-pub parting_more : (parts : List SplitPart) (footers new_footers : List Footer) (splits new_splits : List KeptSplit) (left rest : List SplitPart) (part : SplitPart) → IsParting parts footers splits left → left ≡ part ∷ rest
+pub parting_more : (parts : List FetchedSplit) (footers new_footers : List Footer) (splits new_splits : List FetchedPieces) (left rest : List FetchedSplit) (part : FetchedSplit) → IsParting parts footers splits left → left ≡ part ∷ rest
     → new_footers ≡ footers ++ part.footer ∷ [] → new_splits ≡ splits ++ beside_footer part ∷ [] → IsParting parts new_footers new_splits rest
 parting_more parts footers new_footers splits new_splits left rest part h e f k =
-    let fs : List Footer = map (λ (part : SplitPart). part.footer) rest in
-    let ks : List KeptSplit = map beside_footer rest in
+    let fs : List Footer = map (λ (part : FetchedSplit). part.footer) rest in
+    let ks : List FetchedPieces = map beside_footer rest in
     record {
-      footers_are = h.footers_are ∙ (ap (λ (l : List SplitPart). footers ++ map (λ (part : SplitPart). part.footer) l) e ∙ (sym (append_assoc footers (part.footer ∷ []) fs) ∙ ap (λ (l : List Footer). l ++ fs) (sym f)));
-      splits_are = h.splits_are ∙ (ap (λ (l : List SplitPart). splits ++ map beside_footer l) e ∙ (sym (append_assoc splits (beside_footer part ∷ []) ks) ∙ ap (λ (l : List KeptSplit). l ++ ks) (sym k)));
+      footers_are = h.footers_are ∙ (ap (λ (l : List FetchedSplit). footers ++ map (λ (part : FetchedSplit). part.footer) l) e ∙ (sym (append_assoc footers (part.footer ∷ []) fs) ∙ ap (λ (l : List Footer). l ++ fs) (sym f)));
+      splits_are = h.splits_are ∙ (ap (λ (l : List FetchedSplit). splits ++ map beside_footer l) e ∙ (sym (append_assoc splits (beside_footer part ∷ []) ks) ∙ ap (λ (l : List FetchedPieces). l ++ ks) (sym k)));
     }
 
-pub parting_done : (parts : List SplitPart) (footers : List Footer) (splits : List KeptSplit) (left : List SplitPart) → IsParting parts footers splits left → left ≡ [] → IsParted parts footers splits
+pub parting_done : (parts : List FetchedSplit) (footers : List Footer) (splits : List FetchedPieces) (left : List FetchedSplit) → IsParting parts footers splits left → left ≡ [] → IsParted parts footers splits
 parting_done parts footers splits left h e = (
-  sym (h.footers_are ∙ (ap (λ (l : List SplitPart). footers ++ map (λ (part : SplitPart). part.footer) l) e ∙ append-nil footers)),
-  sym (h.splits_are ∙ (ap (λ (l : List SplitPart). splits ++ map beside_footer l) e ∙ append-nil splits)),
+  sym (h.footers_are ∙ (ap (λ (l : List FetchedSplit). footers ++ map (λ (part : FetchedSplit). part.footer) l) e ∙ append-nil footers)),
+  sym (h.splits_are ∙ (ap (λ (l : List FetchedSplit). splits ++ map beside_footer l) e ∙ append-nil splits)),
 )
 
-pub parted_at : (parts : List SplitPart) (footers : List Footer) (splits at : List KeptSplit) → at ≡ splits → IsParted parts footers splits → IsParted parts footers at
+pub parted_at : (parts : List FetchedSplit) (footers : List Footer) (splits at : List FetchedPieces) → at ≡ splits → IsParted parts footers splits → IsParted parts footers at
 parted_at parts footers splits at e h = (h.0, e ∙ h.1)
 
 -- ---- views of parts
 
 -- so many views are those of the first parts, and the footers and splits that are left are those of the others
-pub record AreSeen (parts : List SplitPart) (splits : List KeptSplit) (place : ℕ) (left : List Footer) (views : List PartView) : Type 0 where
-  pub front : List SplitPart
-  pub rest : List SplitPart
+pub record AreSeen (parts : List FetchedSplit) (splits : List FetchedPieces) (place : ℕ) (left : List Footer) (views : List PartView) : Type 0 where
+  pub front : List FetchedSplit
+  pub rest : List FetchedSplit
   pub parts_are : front ++ rest ≡ parts
   pub seen : AllZip IsViewOfPart front views
-  pub footers_left : left ≡ map (λ (part : SplitPart). part.footer) rest
+  pub footers_left : left ≡ map (λ (part : FetchedSplit). part.footer) rest
   pub splits_left : drop place splits ≡ map beside_footer rest
 
-pub seeing_begun : (parts : List SplitPart) (footers left : List Footer) (splits : List KeptSplit) (views : List PartView) → left ≡ footers → views ≡ [] → IsParted parts footers splits → AreSeen parts splits 0 left views
+pub seeing_begun : (parts : List FetchedSplit) (footers left : List Footer) (splits : List FetchedPieces) (views : List PartView) → left ≡ footers → views ≡ [] → IsParted parts footers splits → AreSeen parts splits 0 left views
 seeing_begun parts footers left splits views e none parted =
     record { front = []; rest = parts; parts_are = refl; seen = subst (λ (vs : List PartView). AllZip IsViewOfPart [] vs) (sym none) tt; footers_left = e ∙ parted.0; splits_left = parted.1 }
 
 -- the next part that is viewed
-pub record IsNextSeen (parts : List SplitPart) (splits : List KeptSplit) (place : ℕ) (footer : Footer) (split : KeptSplit) (left : List Footer) (views : List PartView) : Type 0 where
-  pub part : SplitPart
+pub record IsNextSeen (parts : List FetchedSplit) (splits : List FetchedPieces) (place : ℕ) (footer : Footer) (split : FetchedPieces) (left : List Footer) (views : List PartView) : Type 0 where
+  pub part : FetchedSplit
   pub footer_is : part.footer ≡ footer
   pub pieces_are : part.pieces ≡ split.pieces
   pub then : (view : PartView) → IsViewOfPart part view → AreSeen parts splits (place + 1) left (views ++ view ∷ [])
@@ -77,19 +77,19 @@ mapped_none : {A B : Type 0} (f : A → B) (xs : List A) → [] ≡ map f xs →
 mapped_none f [] e = refl
 mapped_none f (x ∷ xs) e = absurd (cc)
 
-front_only : (parts : List SplitPart) (views : List PartView) (front rest : List SplitPart) → front ++ rest ≡ parts → AllZip IsViewOfPart front views → rest ≡ [] → AllZip IsViewOfPart parts views
+front_only : (parts : List FetchedSplit) (views : List PartView) (front rest : List FetchedSplit) → front ++ rest ≡ parts → AllZip IsViewOfPart front views → rest ≡ [] → AllZip IsViewOfPart parts views
 front_only parts views front rest e seen none =
-    subst (λ (ps : List SplitPart). AllZip IsViewOfPart ps views) (sym (append-nil front) ∙ (ap (λ (l : List SplitPart). front ++ l) (sym none) ∙ e)) seen
+    subst (λ (ps : List FetchedSplit). AllZip IsViewOfPart ps views) (sym (append-nil front) ∙ (ap (λ (l : List FetchedSplit). front ++ l) (sym none) ∙ e)) seen
 
-next_of : (parts : List SplitPart) (splits : List KeptSplit) (place : ℕ) (footer : Footer) (split : KeptSplit) (left : List Footer) (views : List PartView) (front rest : List SplitPart) → front ++ rest ≡ parts → AllZip IsViewOfPart front views
-    → footer ∷ left ≡ map (λ (part : SplitPart). part.footer) rest → split ∷ drop (place + 1) splits ≡ map beside_footer rest → IsNextSeen parts splits place footer split left views
+next_of : (parts : List FetchedSplit) (splits : List FetchedPieces) (place : ℕ) (footer : Footer) (split : FetchedPieces) (left : List Footer) (views : List PartView) (front rest : List FetchedSplit) → front ++ rest ≡ parts → AllZip IsViewOfPart front views
+    → footer ∷ left ≡ map (λ (part : FetchedSplit). part.footer) rest → split ∷ drop (place + 1) splits ≡ map beside_footer rest → IsNextSeen parts splits place footer split left views
 next_of parts splits place footer split left views front [] e seen fl sl = absurd (cc)
 next_of parts splits place footer split left views front (p ∷ ps) e seen fl sl =
     let same : beside_footer p ≡ split = cc in
     record {
       part = p;
       footer_is = cc;
-      pieces_are = ap (λ (k : KeptSplit). k.pieces) same;
+      pieces_are = ap (λ (k : FetchedPieces). k.pieces) same;
       then = λ view is. record {
         front = front ++ p ∷ [];
         rest = ps;
@@ -100,21 +100,21 @@ next_of parts splits place footer split left views front (p ∷ ps) e seen fl sl
       };
     }
 
-pub seeing_next : (parts : List SplitPart) (splits : List KeptSplit) (place : ℕ) (left rest : List Footer) (views : List PartView) (footer : Footer) (split : KeptSplit) → AreSeen parts splits place left views → left ≡ footer ∷ rest → place < length splits → split ≡ get_or splits place split
+pub seeing_next : (parts : List FetchedSplit) (splits : List FetchedPieces) (place : ℕ) (left rest : List Footer) (views : List PartView) (footer : Footer) (split : FetchedPieces) → AreSeen parts splits place left views → left ≡ footer ∷ rest → place < length splits → split ≡ get_or splits place split
     → IsNextSeen parts splits place footer split rest views
 seeing_next parts splits place left rest views footer split h e lt is =
-    let here : split ∷ drop (place + 1) splits ≡ drop place splits = ap (λ (k : KeptSplit). k ∷ drop (place + 1) splits) is ∙ sym (drop_more splits place split lt) in
+    let here : split ∷ drop (place + 1) splits ≡ drop place splits = ap (λ (k : FetchedPieces). k ∷ drop (place + 1) splits) is ∙ sym (drop_more splits place split lt) in
     next_of parts splits place footer split rest views h.front h.rest h.parts_are h.seen (sym e ∙ h.footers_left) (here ∙ h.splits_left)
 
 -- all parts are viewed, where no footer or no split is left
-pub all_footers_seen : (parts : List SplitPart) (splits : List KeptSplit) (place : ℕ) (left : List Footer) (views : List PartView) → AreSeen parts splits place left views → left ≡ [] → AllZip IsViewOfPart parts views
-all_footers_seen parts splits place left views h none = front_only parts views h.front h.rest h.parts_are h.seen (mapped_none (λ (part : SplitPart). part.footer) h.rest (sym none ∙ h.footers_left))
+pub all_footers_seen : (parts : List FetchedSplit) (splits : List FetchedPieces) (place : ℕ) (left : List Footer) (views : List PartView) → AreSeen parts splits place left views → left ≡ [] → AllZip IsViewOfPart parts views
+all_footers_seen parts splits place left views h none = front_only parts views h.front h.rest h.parts_are h.seen (mapped_none (λ (part : FetchedSplit). part.footer) h.rest (sym none ∙ h.footers_left))
 
-pub all_splits_seen : (parts : List SplitPart) (splits : List KeptSplit) (place : ℕ) (left : List Footer) (views : List PartView) → AreSeen parts splits place left views → length splits ≤ place → AllZip IsViewOfPart parts views
+pub all_splits_seen : (parts : List FetchedSplit) (splits : List FetchedPieces) (place : ℕ) (left : List Footer) (views : List PartView) → AreSeen parts splits place left views → length splits ≤ place → AllZip IsViewOfPart parts views
 all_splits_seen parts splits place left views h over = front_only parts views h.front h.rest h.parts_are h.seen (mapped_none beside_footer h.rest (sym (drop_all place splits over) ∙ h.splits_left))
 
 -- a view of each part has what is asked of it
-pub all_asked : (s : Schema) (r : LeafRequest) (parts : List SplitPart) (views : List PartView) (lists : List (List Placed)) → IsAsked s r → AllZip IsViewOfPart parts views → AllZip (HasNeeded s r) parts lists → AllZip (HasAsked s r) views lists
+pub all_asked : (s : Schema) (r : LeafRequest) (parts : List FetchedSplit) (views : List PartView) (lists : List (List Placed)) → IsAsked s r → AllZip IsViewOfPart parts views → AllZip (HasNeeded s r) parts lists → AllZip (HasAsked s r) views lists
 all_asked s r [] [] [] ask seen needed = tt
 all_asked s r [] [] (ds ∷ lists) ask seen needed = absurd needed
 all_asked s r [] (v ∷ views) lists ask seen needed = absurd seen

@@ -46,13 +46,13 @@ use Rattle.root_search.specs.ReadSearches.{IsChoiceOf, IsRead}
 use Rattle.root_search.specs.declared.leaf_asks.LeafAsk.{LeafAsk}
 use Rattle.root_search.specs.declared.reads.ReadSearch.{ReadSearch}
 use Rattle.root_search.specs.Footers.{KeepsMore, entries}
-use Rattle.root_search.specs.SplitParts.{HasNeeded, IsFooterIn}
+use Rattle.root_search.specs.FetchedSplits.{HasNeeded, IsFooterIn}
 use Rattle.root_search.specs.declared.footers.Footers.{Footers}
 use Rattle.root_search.specs.declared.outcome.SearchStep.TheVariants as steps
 use Rattle.root_search.specs.declared.planned.Planned.{Planned as GivenPlan}
 use Rattle.root_search.specs.declared.searcher.Request.TheVariants as given
 use Rattle.root_search.specs.declared.searcher.Searcher.{Searcher}
-use Rattle.root_search.specs.declared.split_parts.SplitPart.{SplitPart}
+use Rattle.root_search.specs.declared.split_parts.FetchedSplit.{FetchedSplit}
 use Rattle.root_search.specs.Searching.{AreKnown, IsInHand, IsKnownOf, history_at, published_at, rows_at, documents_at, IsPlanned, IsAtWork, Ends}
 use Rattle.root_search.specs.Steps.{Plan, Client, config_at, config_in, grace_at, planned_numbers, with_plan}
 use Rattle.root_search.proofs.Kept.{was_kept}
@@ -99,7 +99,7 @@ plan_ends searcher client search read held count config after log s configured p
             place = omega (arith, first);
             unfetched = sym (ap (λ (n : ℕ). map (λ (row : PlanRow). row.number) (drop n held.plan.rows)) first ∙ (ap (map (λ (row : PlanRow). row.number)) chosen ∙ numbers_are list));
             parts = subst (λ (n : ℕ). AllZip (HasNeeded (config_at (length after.history) after).schema held.ask.request) held.parts (map (documents_at (length after.history) after log) (take n (rows_at (length after.history) search after)))) (sym first)
-                (subst (λ (parts : List SplitPart). AllZip (HasNeeded (config_at (length after.history) after).schema held.ask.request) parts []) (sym none) tt);
+                (subst (λ (parts : List FetchedSplit). AllZip (HasNeeded (config_at (length after.history) after).schema held.ask.request) parts []) (sym none) tt);
             in_hand = sound_in_hand after log s;
           },
           sound_known searcher.footers after log s w.footers,
@@ -263,7 +263,7 @@ planned_few held plan core log p =
 
 -- ---- one more split
 
-pub one_more : (held more : GivenPlan) (plan : Plan) (core after : Core) (log : Log) (number size : ℕ) (part : SplitPart) → IsPlanned held plan core log → (next : IsNext held plan core log number size) →
+pub one_more : (held more : GivenPlan) (plan : Plan) (core after : Core) (log : Log) (number size : ℕ) (part : FetchedSplit) → IsPlanned held plan core log → (next : IsNext held plan core log number size) →
     GoesFor Nobody core after → more.ask ≡ held.ask → more.plan ≡ held.plan → more.next ≡ held.next + 1 → more.parts ≡ held.parts ++ part ∷ [] →
     HasNeeded (config_at plan.revision core).schema held.ask.request part (documents_at plan.revision core log next.row) →
     IsPlanned more (record plan { unfetched = map (λ (r : PlanRow). r.number) (drop (held.next + 1) held.plan.rows) }) after log
@@ -278,7 +278,7 @@ one_more held more plan core after log number size part p next on ask same furth
       place = omega (arith, further, within, ap length rows_same);
       unfetched = ap₂ (λ n l. map (λ (r : PlanRow). r.number) (drop n l)) (sym further) (sym rows_same);
       parts = subst (λ (a : LeafAsk). AllZip (HasNeeded s a.request) more.parts (map docs (take more.next list))) (sym ask)
-          (subst (λ (parts : List SplitPart). AllZip (HasNeeded s held.ask.request) parts (map docs (take more.next list))) (sym behind)
+          (subst (λ (parts : List FetchedSplit). AllZip (HasNeeded s held.ask.request) parts (map docs (take more.next list))) (sym behind)
           (subst (λ (lists : List (List Placed)). AllZip (HasNeeded s held.ask.request) (held.parts ++ part ∷ []) lists) (sym (map-append docs (take held.next list) (next.row ∷ [])) ∙ ap (map docs) (sym taken))
           (zip_last (HasNeeded s held.ask.request) held.parts (map docs (take held.next list)) part (docs next.row) p.parts needed)));
       in_hand = p.in_hand;

@@ -29,7 +29,7 @@ use Rattle.root_search.specs.declared.outcome.SearchStep.TheVariants.{Fetched, I
 use Rattle.root_search.specs.declared.planned.Planned.{Planned as GivenPlan}
 use Rattle.root_search.specs.declared.searcher.Request.{Request as GivenRequest}
 use Rattle.root_search.specs.declared.searcher.Request.TheVariants as given
-use Rattle.root_search.specs.declared.split_parts.SplitPart.{SplitPart}
+use Rattle.root_search.specs.declared.split_parts.FetchedSplit.{FetchedSplit}
 
 -- there is no row behind the last one
 pub no_row : (rows : List PlanRow) (n : ℕ) (row : PlanRow) → slice_get rows n ≡ Some row → length rows ≤ n → ⊥
@@ -57,7 +57,7 @@ module _ {W : Type 0} (Stands : W → Core → Log → Type 0) (Between : Core �
   row_short holds refused q (Ok step) f short = absurd (cc)
   row_short holds refused q (Err e) f short = record { calls = f.calls; are = f.are; says = tt }
 
-  pub row_read : (part : SplitPart) (later : GivenPlan) (number : ℕ) → ReadsAs Stands Between Owns Adds bytes_fetched told Answers planned.plan planned.next (IsPartRead known row.number row.size) (IsNoPart known row.size) (Ok part) old new → number ≡ row.number → request ≡ given.Planned later
+  pub row_read : (part : FetchedSplit) (later : GivenPlan) (number : ℕ) → ReadsAs Stands Between Owns Adds bytes_fetched told Answers planned.plan planned.next (IsPartRead known row.number row.size) (IsNoPart known row.size) (Ok part) old new → number ≡ row.number → request ≡ given.Planned later
       → later.ask ≡ planned.ask → later.plan ≡ planned.plan → later.next ≡ min (planned.next + 1) (2 ^ 32 - 1) → later.parts ≡ planned.parts ++ part ∷ [] → FetchesRow Stands Between Owns Adds bytes_fetched told Answers footers planned row request (Ok (Fetched number)) old new
   row_read part later number f same is ask plan next parts =
       record {

@@ -30,7 +30,7 @@ use Rattle.search_api.specs.Resolved.{Search}
 use Rattle.index_world.proofs.Configured.{configured-take, configured-unread, legal_front}
 use Rattle.index_world.proofs.InCore.{planned_goes, shown_goes}
 use Rattle.index_world.proofs.StoreChanges.{All-each}
-use Rattle.root_search.specs.SplitParts.{HasNeeded, IsFooterIn}
+use Rattle.root_search.specs.FetchedSplits.{HasNeeded, IsFooterIn}
 use Rattle.root_search.specs.declared.planned.Planned.{Planned as GivenPlan}
 use Rattle.root_search.specs.declared.searcher.Request.{Request as GivenRequest}
 use Rattle.root_search.specs.declared.searcher.Request.TheVariants as given

@@ -33,7 +33,7 @@ use Rattle.root_search.specs.declared.searcher.Request.TheVariants as requests
 use Rattle.root_search.specs.declared.searcher.Searcher.{Searcher}
 use Rattle.root_search.specs.Searching.{IsRefusalOf, IsRequest, SearcherStands, SearchesAs, IsAtWork, Ends, FaultEnds, searched_as}
 use Rattle.root_search.specs.StepReads.{refusal_of}
-use Rattle.root_search.specs.Steps.{ArePassed, grace_in, Plan, Request, no_request, opened, planned, Client, Luck, Searched, Passage, config_in, without_memory, without_request, fetched_at, fetched_each, luck_of, next_at, next_step, request_at, step_at, step_client, step_request, delete_by, delete_given, opened_by, plan_by, plan_given, fetch_by, fetch_given, or_short, state_refusal, trouble_replied, unmade_replied, unless_fault, refused_over, reply_with, answer_of}
+use Rattle.root_search.specs.Steps.{ArePassed, grace_in, Plan, Request, no_request, opened, planned, Client, ClientLuck, Searched, Passage, config_in, without_memory, without_request, fetched_at, fetched_each, luck_of, next_at, next_step, request_at, step_at, step_client, step_request, delete_by, delete_given, opened_by, plan_by, plan_given, fetch_by, fetch_given, or_short, state_refusal, trouble_replied, unmade_replied, unless_fault, refused_over, reply_with, answer_of}
 use Rattle.root_search.specs.Goes.{GoesBy}
 use Rattle.root_search.specs.Recorded.{AreCallsOf, AreFetchesOf, AreRecorded, IsFirstCall}
 use Rattle.index_world.specs.Taking.{IsWant}
@@ -342,7 +342,7 @@ pub step_alone : (passage : Passage) (more : List Passage) (short : Bool) (log :
     → step_client (luck_of passage more short) log client core ≡ step_at passage more short log client
 step_alone passage more short log client core p = ap (or_short short client) (by client.request p)
   where
-    luck : Luck
+    luck : ClientLuck
     luck = luck_of passage more short
 
     next : (plan : Plan) (left : List ℕ) → ArePassed plan.grace NoneBetween core (passage ∷ more) → next_step luck log plan left client core ≡ next_at passage more log plan left client

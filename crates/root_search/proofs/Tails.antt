@@ -14,7 +14,7 @@ use Rattle.split_bundle.specs.declared.split_error.SplitError.{SplitError}
 use Rattle.split_bundle.specs.declared.split_error.SplitError.TheVariants as splits
 use Rattle.split_bundle.proofs.Footers.{length-file}
 use Rattle.root_search.specs.Fetching.{IsWant, WantsRoom}
-use Rattle.root_search.specs.SplitParts.{IsFile, StartsFooter}
+use Rattle.root_search.specs.FetchedSplits.{IsFile, StartsFooter}
 use Rattle.root_search.specs.declared.fetching.FetchError.{FetchError}
 
 -- a file is long enough for its footer and what stands behind it

@@ -24,7 +24,7 @@ use Rattle.split_bundle.specs.declared.split_error.SplitError.TheVariants as spl
 use Rattle.root_search.specs.declared.fetching.FetchError.{FetchError}
 use Rattle.root_search.specs.declared.fetching.FetchError.TheVariants.{Memory, World, Corrupt}
 use Rattle.root_search.specs.declared.split_parts.KeptPiece.{KeptPiece}
-use Rattle.root_search.specs.declared.split_parts.SplitPart.{SplitPart}
+use Rattle.root_search.specs.declared.split_parts.FetchedSplit.{FetchedSplit}
 
 -- ---- calls
 
@@ -155,7 +155,7 @@ IsNoFooter None size calls = HasNoStart size calls ⊎ ((end : IsEndGiven size c
 -- ---- what a request needs of a split, over any bytes
 
 -- The part of a row: the footer, and behind it exactly the pieces that further calls gave; then, it may be, calls for no byte.
-pub record IsPartRead (known : Option Footer) (number size : ℕ) (part : SplitPart) (calls : List FetchCall) : Type 0 where
+pub record IsPartRead (known : Option Footer) (number size : ℕ) (part : FetchedSplit) (calls : List FetchCall) : Type 0 where
   pub footer_calls : List FetchCall
   pub piece_calls : List FetchCall
   pub looks : List FetchCall
@@ -166,7 +166,7 @@ pub record IsPartRead (known : Option Footer) (number size : ℕ) (part : SplitP
   pub no_bytes : AllByRecursion (λ call. call.len ≡ 0) looks
 
 -- the part that is there already, by one call for no byte
-pub record IsPartLooked (part given : SplitPart) (calls : List FetchCall) : Type 0 where
+pub record IsPartLooked (part given : FetchedSplit) (calls : List FetchCall) : Type 0 where
   pub same : given ≡ part
   pub no_bytes : AllByRecursion (λ call. call.len ≡ 0) calls
 

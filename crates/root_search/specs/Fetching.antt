@@ -21,13 +21,13 @@ use Rattle.split_bundle.specs.declared.split_error.SplitError.{SplitError}
 use Rattle.split_bundle.specs.declared.split_error.SplitError.TheVariants as splits
 use Rattle.root_search.specs.Goes.{GoesBy}
 use Rattle.root_search.specs.Recorded.{AreRecorded}
-use Rattle.root_search.specs.SplitParts.{HasNeeded, HoldsBlocks, IsFooterIn, over, pieces_at}
+use Rattle.root_search.specs.FetchedSplits.{HasNeeded, HoldsBlocks, IsFooterIn, over, pieces_at}
 use Rattle.root_search.specs.Steps.{Passage, fetched_at, ArePassed}
 use Rattle.root_search.specs.declared.fetching.FetchError.{FetchError}
 use Rattle.root_search.specs.declared.fetching.FetchError.TheVariants.{Memory, World, Corrupt}
 use Rattle.root_search.specs.declared.fetching.ShownStarts.{ShownStarts}
 use Rattle.root_search.specs.declared.split_parts.KeptPiece.{KeptPiece}
-use Rattle.root_search.specs.declared.split_parts.SplitPart.{SplitPart}
+use Rattle.root_search.specs.declared.split_parts.FetchedSplit.{FetchedSplit}
 
 -- as long as the moment is below this one the file of the planned row at a place stands with these bytes, of which the row knows
 -- how many they are
@@ -139,22 +139,22 @@ pub record DrawsNeeded (s : Schema) (r : LeafRequest) (known : Option Footer) (d
   pub few : drawn ≤ footer_drawn known p + (total blocks + total listed + (total starts + total shown))
 
 -- what a request needs of a split was fetched, and no more
-pub record IsPartFetched (s : Schema) (r : LeafRequest) (known : Option Footer) (documents : List Placed) (p : Parts) (calls : SplitPart → ℕ) (part : SplitPart) (many drawn : ℕ) : Type 0 where
+pub record IsPartFetched (s : Schema) (r : LeafRequest) (known : Option Footer) (documents : List Placed) (p : Parts) (calls : FetchedSplit → ℕ) (part : FetchedSplit) (many drawn : ℕ) : Type 0 where
   pub needed : HasNeeded s r part documents
   pub footer : IsFooterIn (file_bytes p) part.footer
   pub calls_are : many ≡ calls part
   pub draws : DrawsNeeded s r known documents p part.footer drawn
 
 -- each piece takes one fetch, and the footer those that it takes
-abbrev pub needed_calls : Option Footer → SplitPart → ℕ
+abbrev pub needed_calls : Option Footer → FetchedSplit → ℕ
 needed_calls known part = footer_calls known + length part.pieces
 
 -- where there is none of these, one is made all the same
-abbrev pub part_calls : Option Footer → SplitPart → ℕ
+abbrev pub part_calls : Option Footer → FetchedSplit → ℕ
 part_calls known part = max 1 (needed_calls known part)
 
 -- the part that is there already, by one fetch of no byte
-pub record IsLooked (part given : SplitPart) (many drawn : ℕ) : Type 0 where
+pub record IsLooked (part given : FetchedSplit) (many drawn : ℕ) : Type 0 where
   pub same : given ≡ part
   pub once : many ≡ 1
   pub none : drawn ≤ 0

@@ -9,7 +9,7 @@ use Rattle.split_bundle.specs.Wholes.{HaveAll}
 use Rattle.split_bundle.specs.Pieces.{held_in}
 use Rattle.split_bundle.specs.declared.part_view.PartView.{PartView}
 use Rattle.split_bundle.specs.declared.placed.Placed.{Placed}
-use Rattle.doc_sets.specs.Faults.{HasCause, IsMemory}
+use Rattle.doc_sets.specs.Faults.{LacksPart, IsMemory}
 use Rattle.doc_sets.specs.Reads.{AreRead, ReadsAll}
 use Rattle.doc_sets.specs.declared.leaf_error.LeafError.{LeafError}
 use Rattle.doc_sets.specs.declared.leaf_error.LeafError.TheVariants as leaf
@@ -19,8 +19,8 @@ use Rattle.leaf_search.specs.Answers.{AsksLeaf, IsAnswerOf, IsAsked}
 use Rattle.leaf_search.specs.Counts.{only_counts, read_lookups}
 use Rattle.leaf_search.specs.declared.request.LeafAnswer.{LeafAnswer}
 use Rattle.leaf_search.specs.declared.request.LeafRequest.{LeafRequest}
-use Rattle.root_search.specs.declared.splits_error.SplitsError.{SplitsError}
-use Rattle.root_search.specs.declared.splits_error.SplitsError.TheVariants.{Corrupt, Memory, Missing, TooMany}
+use Rattle.root_search.specs.declared.splits_error.JoinFault.{JoinFault}
+use Rattle.root_search.specs.declared.splits_error.JoinFault.TheVariants.{Corrupt, Memory, Missing, TooMany}
 
 -- the documents of some lists, one list after the other
 abbrev pub all_of : List (List Placed) → List Placed
@@ -51,7 +51,7 @@ pub record HasAsked (s : Schema) (r : LeafRequest) (v : PartView) (documents : L
 -- what a leaf answers over a view
 pub record IsLeafAnswer (s : Schema) (r : LeafRequest) (v : PartView) (answer : Result LeafAnswer LeafError) : Type 0 where
   pub only : (documents : List Placed) (p : Parts) → IsPartOf v s documents p → IsAsked s r
-      → MatchResult answer (IsAnswerOf s r documents) (HasCause (AsksLeaf v s documents p r) v.pieces)
+      → MatchResult answer (IsAnswerOf s r documents) (LacksPart (AsksLeaf v s documents p r) v.pieces)
   pub there : (documents : List Placed) (p : Parts) → IsPartOf v s documents p → HaveAll (file_bytes p) v.pieces → IsAsked s r → MatchResult answer (IsAnswerOf s r documents) IsMemory
   pub counted : IfOk answer (IsCounted r)
   pub read : IfOk answer (λ a. AreRead v (read_lookups v.footer s r))
@@ -74,21 +74,21 @@ pub record FailsFirst (answers : List (Result LeafAnswer LeafError)) (place : �
   pub place_is : place ≡ length front
 
 -- the fault is that of the answer at a place, the first, or the answers count too many documents together
-abbrev pub IsFaultIn : List (Result LeafAnswer LeafError) → SplitsError → Type 0
+abbrev pub IsFaultIn : List (Result LeafAnswer LeafError) → JoinFault → Type 0
 IsFaultIn answers (Memory a) = Unit {0}
 IsFaultIn answers (Missing place at) = FailsFirst answers place (leaf.Missing at)
 IsFaultIn answers (Corrupt place section) = FailsFirst answers place (leaf.Corrupt section)
 IsFaultIn answers TooMany = 2 ^ 62 ≤ sum_by count_in answers
 
 -- want of memory, or so many documents that they are not counted
-abbrev pub IsFull : ℕ → SplitsError → Type 0
+abbrev pub IsFull : ℕ → JoinFault → Type 0
 IsFull many (Memory a) = Unit {0}
 IsFull many TooMany = 2 ^ 62 ≤ many
 IsFull many (Missing place at) = ⊥
 IsFull many (Corrupt place section) = ⊥
 
 -- the fault of the split at a place
-abbrev pub placed_fault : ℕ → LeafError → SplitsError
+abbrev pub placed_fault : ℕ → LeafError → JoinFault
 placed_fault place (leaf.Memory a) = Memory a
 placed_fault place (leaf.Missing at) = Missing place at
 placed_fault place (leaf.Corrupt section) = Corrupt place section
@@ -106,14 +106,14 @@ pub record IsLacking (s : Schema) (r : LeafRequest) (views : List PartView) (lis
   pub none : held_in view.pieces at len ≡ None
 
 -- want of memory, or a view that lacks a part, by its place, and where the part starts
-abbrev pub HasCauseIn : Schema → LeafRequest → List PartView → List (List Placed) → SplitsError → Type 0
+abbrev pub HasCauseIn : Schema → LeafRequest → List PartView → List (List Placed) → JoinFault → Type 0
 HasCauseIn s r views lists (Memory a) = Unit {0}
 HasCauseIn s r views lists (Missing place at) = IsLacking s r views lists place at
 HasCauseIn s r views lists (Corrupt place section) = ⊥
 HasCauseIn s r views lists TooMany = ⊥
 
 -- nothing but want of memory
-abbrev pub WantsMemory : SplitsError → Type 0
+abbrev pub WantsMemory : JoinFault → Type 0
 WantsMemory (Memory a) = Unit {0}
 WantsMemory (Missing place at) = ⊥
 WantsMemory (Corrupt place section) = ⊥
@@ -165,7 +165,7 @@ pub record IsNoLeaf (s : Schema) (r : LeafRequest) (views : List PartView) (plac
   pub none : (documents : List Placed) → IsAsked s r → HasAsked s r view documents → ⊥
 
 -- the split at a place is refused only where its view is none of a split, the first
-abbrev pub IsRefusedIn : Schema → LeafRequest → List PartView → SplitsError → Type 0
+abbrev pub IsRefusedIn : Schema → LeafRequest → List PartView → JoinFault → Type 0
 IsRefusedIn s r views (Memory a) = Unit {0}
 IsRefusedIn s r views (Missing place at) = IsNoLeaf s r views place (leaf.Missing at)
 IsRefusedIn s r views (Corrupt place section) = IsNoLeaf s r views place (leaf.Corrupt section)

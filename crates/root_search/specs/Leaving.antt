@@ -11,7 +11,7 @@ use Rattle.root_search.specs.declared.searcher.Busy.{Busy}
 use Rattle.root_search.specs.declared.searcher.Request.{Request}
 use Rattle.root_search.specs.declared.searcher.Request.TheVariants as requests
 use Rattle.root_search.specs.declared.searcher.Searcher.{Searcher}
-use Rattle.root_search.specs.declared.split_parts.SplitPart.{SplitPart}
+use Rattle.root_search.specs.declared.split_parts.FetchedSplit.{FetchedSplit}
 
 -- without a request and footers
 pub record Restarts (old new : Searcher) : Type 0 where
@@ -45,7 +45,7 @@ LeavesRequest (Err e) request = request ≡ requests.Vacant
 pub record HoldsFooter (request : Request) (number : ℕ) (footer : Footer) : Type 0 where
   pub planned : GivenPlan
   pub request_is : request ≡ requests.Planned planned
-  pub part : SplitPart
+  pub part : FetchedSplit
   pub among : Contains planned.parts part
   pub number_is : part.number ≡ number
   pub footer_is : part.footer ≡ footer

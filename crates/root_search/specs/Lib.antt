@@ -6,7 +6,7 @@ pub mod Places
 pub mod LeafAsks
 pub mod Intervals
 pub mod Leaves
-pub mod SplitParts
+pub mod FetchedSplits
 pub mod PartAnswers
 pub mod ReadSearches
 pub mod Deletes

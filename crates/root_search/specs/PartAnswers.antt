@@ -25,14 +25,14 @@ use Rattle.search_api.specs.declared.unanswered.Unanswered.TheVariants as reason
 use Rattle.root_search.specs.Answer.{printed}
 use Rattle.root_search.specs.Leaves.{AreJoined, IsLeafAnswer, all_of}
 use Rattle.root_search.specs.Places.{OneAtEach}
-use Rattle.root_search.specs.SplitParts.{HasNeeded, IsLentOf}
+use Rattle.root_search.specs.FetchedSplits.{HasNeeded, IsLentOf}
 use Rattle.root_search.specs.declared.leaf_asks.LeafAsk.{LeafAsk}
 use Rattle.root_search.specs.declared.part_answers.PartError.{PartError}
 use Rattle.root_search.specs.declared.part_answers.PartError.TheVariants.{Memory, Corrupt}
-use Rattle.root_search.specs.declared.split_parts.KeptSplit.{KeptSplit}
-use Rattle.root_search.specs.declared.split_parts.SplitPart.{SplitPart}
-use Rattle.root_search.specs.declared.splits_error.SplitsError.{SplitsError}
-use Rattle.root_search.specs.declared.splits_error.SplitsError.TheVariants as errors
+use Rattle.root_search.specs.declared.split_parts.FetchedPieces.{FetchedPieces}
+use Rattle.root_search.specs.declared.split_parts.FetchedSplit.{FetchedSplit}
+use Rattle.root_search.specs.declared.splits_error.JoinFault.{JoinFault}
+use Rattle.root_search.specs.declared.splits_error.JoinFault.TheVariants as errors
 
 -- What is found in the lists together is what is found in all of some documents, each at a place of its own, and these are
 -- those in another order.
@@ -50,31 +50,31 @@ WantsRoom (Corrupt number) = ⊥
 -- ---- over any bytes
 
 -- the view lends what was kept of a split
-pub record IsViewOfPart (part : SplitPart) (view : PartView) : Type 0 where
+pub record IsViewOfPart (part : FetchedSplit) (view : PartView) : Type 0 where
   pub footer : view.footer ≡ part.footer
   pub pieces : AllZip IsLentOf part.pieces view.pieces
 
 -- what the leaf answers over what was kept of a split
-pub record LeafOver (s : Schema) (r : LeafRequest) (part : SplitPart) (answer : Result LeafAnswer LeafError) : Type 0 where
+pub record LeafOver (s : Schema) (r : LeafRequest) (part : FetchedSplit) (answer : Result LeafAnswer LeafError) : Type 0 where
   pub view : PartView
   pub lends : IsViewOfPart part view
   pub is_leaf : IsLeafAnswer s r view answer
 
-abbrev pub PartGives : Schema → LeafRequest → SplitPart → LeafAnswer → Type 0
+abbrev pub PartGives : Schema → LeafRequest → FetchedSplit → LeafAnswer → Type 0
 PartGives s r part answer = LeafOver s r part (Ok answer)
 
 -- The leaf over each part answered, and their answers are joined.
-pub record AreAnswered (s : Schema) (r : LeafRequest) (parts : List SplitPart) (all : LeafAnswer) : Type 0 where
+pub record AreAnswered (s : Schema) (r : LeafRequest) (parts : List FetchedSplit) (all : LeafAnswer) : Type 0 where
   pub answers : List LeafAnswer
   pub are_leaves : AllZip (PartGives s r) parts answers
   pub joined : AreJoined r answers all
 
 -- The leaf over what was kept of the split with a number met a fault that is not want of memory, and none before it did. What was kept is not
 -- what the request needs of a split, of whatever documents.
-pub record IsBroken (s : Schema) (r : LeafRequest) (parts : List SplitPart) (number : ℕ) : Type 0 where
-  pub front : List SplitPart
-  pub part : SplitPart
-  pub rest : List SplitPart
+pub record IsBroken (s : Schema) (r : LeafRequest) (parts : List FetchedSplit) (number : ℕ) : Type 0 where
+  pub front : List FetchedSplit
+  pub part : FetchedSplit
+  pub rest : List FetchedSplit
   pub parts_are : parts ≡ front ++ part ∷ rest
   pub number_is : part.number ≡ number
   pub answers : List LeafAnswer
@@ -84,16 +84,16 @@ pub record IsBroken (s : Schema) (r : LeafRequest) (parts : List SplitPart) (num
   pub other : IsMemory fault → ⊥
   pub none : (documents : List Placed) → IsAsked s r → HasNeeded s r part documents → ⊥
 
-abbrev pub IsRefusedPart : Schema → LeafRequest → List SplitPart → PartError → Type 0
+abbrev pub IsRefusedPart : Schema → LeafRequest → List FetchedSplit → PartError → Type 0
 IsRefusedPart s r parts (Memory e) = Unit {0}
 IsRefusedPart s r parts (Corrupt number) = IsBroken s r parts number
 
 -- the split at a place is the one that is refused, if one is
-abbrev pub IsCorruptAt : List KeptSplit → ℕ → PartError → Type 0
+abbrev pub IsCorruptAt : List FetchedPieces → ℕ → PartError → Type 0
 IsCorruptAt splits place (Memory e) = Unit {0}
-IsCorruptAt splits place (Corrupt number) = (split : KeptSplit) × (slice_get splits place ≡ Some split) × (split.number ≡ number)
+IsCorruptAt splits place (Corrupt number) = (split : FetchedPieces) × (slice_get splits place ≡ Some split) × (split.number ≡ number)
 
-abbrev pub IsFaultAt : List KeptSplit → SplitsError → PartError → Type 0
+abbrev pub IsFaultAt : List FetchedPieces → JoinFault → PartError → Type 0
 IsFaultAt splits (errors.Memory e) fault = WantsRoom fault
 IsFaultAt splits (errors.Missing place at) fault = IsCorruptAt splits place fault
 IsFaultAt splits (errors.Corrupt place section) fault = IsCorruptAt splits place fault
@@ -120,7 +120,7 @@ IsShownOf s ask all (Deleted opstamp) = ⊥
 
 -- What is said over what was kept of splits: that of their answers, where the leaf over each of them answered; or that the first one is
 -- corrupt over which it met a fault, with its key.
-abbrev pub IsSaidOver : Schema → LeafAsk → List SplitPart → Said → Type 0
+abbrev pub IsSaidOver : Schema → LeafAsk → List FetchedSplit → Said → Type 0
 IsSaidOver s ask parts said =
     ((all : LeafAnswer) × AreAnswered s ask.request parts all × IsShownOf s ask all said)
     ⊎ ((number : ℕ) × (said ≡ Refused (refusals.Corrupt (split_key number))) × IsBroken s ask.request parts number)

@@ -2,7 +2,7 @@
 use Rattle.std.specs.Prelude.{◌≡◌, Result, Ok, Err}
 use Rattle.doc_value.specs.declared.schema.Schema.{Schema}
 use Rattle.doc_value.specs.declared.facts.TimeRange.{TimeRange}
-use Rattle.index_world.specs.Gate.{CanAsk}
+use Rattle.index_world.specs.Gate.{CanAddTask}
 use Rattle.index_world.specs.declared.tokens.DeleteAsk.{DeleteAsk}
 use Rattle.leaf_search.specs.Answers.{IsAsked}
 use Rattle.meta_store.specs.declared.planning.Choice.{Choice}
@@ -35,7 +35,7 @@ pub record IsRead (s : Schema) (search : Search) (read : ReadSearch) : Type 0 wh
 -- its task is asked for, in texts that a journal can spell
 pub record IsReadDelete (deletion : Deletion) (ask : DeleteAsk) : Type 0 where
   pub same : ask ≡ ask_of deletion
-  pub can : CanAsk ask
+  pub can : CanAddTask ask
 
 -- the answer is what is asked, or the same refusal, unless memory is wanting
 abbrev pub Reads : Schema → Result Asked Unanswered → Result ReadRequest Unanswered → Type 0

@@ -29,7 +29,7 @@ use Rattle.root_search.specs.Goes.{GoesBy}
 use Rattle.root_search.specs.Recorded.{AreCallsOf}
 use Rattle.root_search.specs.LeafAsks.{Asks}
 use Rattle.root_search.specs.Footers.{entries}
-use Rattle.root_search.specs.SplitParts.{HasNeeded, IsFooterIn}
+use Rattle.root_search.specs.FetchedSplits.{HasNeeded, IsFooterIn}
 use Rattle.root_search.specs.Steps.{ArePassed, Plan, Request, no_request, opened, planned, Client, Searched, Passage, config_at, fault_refusal, grace_in, step_at, trouble_replied}
 use Rattle.root_search.specs.declared.outcome.SearchStep.{SearchStep}
 use Rattle.root_search.specs.declared.fetching.FetchError.{FetchError}

@@ -28,7 +28,7 @@ use Rattle.root_search.specs.FetchCalls.{AreFetches, FetchCall, HasGiven, HaveFa
 use Rattle.root_search.specs.Fetching.{IsFileAt}
 use Rattle.root_search.specs.Footers.{entries}
 use Rattle.root_search.specs.PartAnswers.{IsSaidOver}
-use Rattle.root_search.specs.SplitParts.{IsKnown}
+use Rattle.root_search.specs.FetchedSplits.{IsKnown}
 use Rattle.root_search.specs.Steps.{state_refusal}
 use Rattle.root_search.specs.declared.fetching.FetchError.{FetchError}
 use Rattle.root_search.specs.declared.fetching.FetchError.TheVariants.{Memory, World, Corrupt}
@@ -39,7 +39,7 @@ use Rattle.root_search.specs.declared.planned.Planned.{Planned as GivenPlan}
 use Rattle.root_search.specs.declared.searcher.Request.{Request as GivenRequest}
 use Rattle.root_search.specs.declared.searcher.Request.TheVariants as requests
 use Rattle.root_search.specs.declared.searcher.Searcher.{Searcher}
-use Rattle.root_search.specs.declared.split_parts.SplitPart.{SplitPart}
+use Rattle.root_search.specs.declared.split_parts.FetchedSplit.{FetchedSplit}
 
 -- ---- refusals
 
@@ -90,7 +90,7 @@ IsReadRefusal Stands plan place r known row gate calls refusal =
 
 -- Behind a row the part that was read of it is kept, and the next row is fetched.
 pub record IsFurther (known : Option Footer) (row : PlanRow) (planned : GivenPlan) (calls : List FetchCall) (request : GivenRequest) : Type 0 where
-  pub part : SplitPart
+  pub part : FetchedSplit
   pub later : GivenPlan
   pub all_gave : AllByRecursion HasGiven calls
   pub read : IsPartRead known row.number row.size part calls

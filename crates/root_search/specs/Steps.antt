@@ -46,7 +46,7 @@ pub record Client : Type 0 where
 
 -- The fate of one step: its call of the world, its further calls if it makes some, and whether it finds no memory behind
 -- them.
-pub record Luck : Type 0 where
+pub record ClientLuck : Type 0 where
   pub world : Fate
   pub more : List Fate
   pub short : Bool
@@ -180,7 +180,7 @@ opened_by (Ok (IsDelete deletion)) fate client core = delete_given client (task_
 opened_by (Err reason) fate client core = plan_given (Err reason) client (asked_and_looked fate core)
 
 -- the text is read under the configuration of the index
-abbrev pub first_step : Luck → List ℕ → Client → Core → Searched
+abbrev pub first_step : ClientLuck → List ℕ → Client → Core → Searched
 first_step luck text client core = opened_by (asked_of (config_in core) text) luck.world client core
 
 -- the answer over what was visible at the planned revision
@@ -208,11 +208,11 @@ fetch_by (Err trouble) plan number more client core = trouble_replied plan.revis
 abbrev pub fetch_given : Plan → ℕ → List ℕ → Client → Gives Trouble ⊤ → Searched
 fetch_given plan number more client given = fetch_by given.answer plan number more client given.core
 
-abbrev pub next_step : Luck → Log → Plan → List ℕ → Client → Core → Searched
+abbrev pub next_step : ClientLuck → Log → Plan → List ℕ → Client → Core → Searched
 next_step luck log plan [] client core = reply_with plan.revision (answer_of plan log core) client core
 next_step luck log plan (number ∷ more) client core = fetch_given plan number more client (fetched_each plan.grace luck.world luck.more core)
 
-abbrev pub step_request : Request → Luck → Log → Client → Core → Searched
+abbrev pub step_request : Request → ClientLuck → Log → Client → Core → Searched
 step_request no_request luck log client core = record { outcome = Some steps.Idle; client = client; core = core }
 step_request (opened text) luck log client core = first_step luck text client core
 step_request (planned plan) luck log client core = next_step luck log plan plan.unfetched client core
@@ -221,7 +221,7 @@ abbrev pub or_short : Bool → Client → Searched → Searched
 or_short true client step = without_memory client step.core
 or_short false client step = step
 
-abbrev pub step_client : Luck → Log → Client → Core → Searched
+abbrev pub step_client : ClientLuck → Log → Client → Core → Searched
 step_client luck log client core = or_short luck.short client (step_request client.request luck log client core)
 
 -- the words of an answer, without the client's name; a reply is a line of its own
@@ -263,5 +263,5 @@ abbrev pub step_at : Passage → List Passage → Bool → Log → Client → Se
 step_at passage more short log client = or_short short client (request_at client.request passage more log client)
 
 -- Where no other actor acts between the calls it is `step_client` with this luck.
-abbrev pub luck_of : Passage → List Passage → Bool → Luck
+abbrev pub luck_of : Passage → List Passage → Bool → ClientLuck
 luck_of passage more short = record { world = passage.fate; more = map (λ (p : Passage). p.fate) more; short = short }

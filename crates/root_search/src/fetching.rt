@@ -21,9 +21,9 @@ ghost use Rattle.split_bundle.specs.Splits.{IsSplitOf};
 ghost use Rattle.split_bundle.specs.Views.{IsFooterOf, ReadsCut, held};
 ghost use Rattle.root_search.specs.FetchCalls.{AreKeptBehind, IsFaultWhere, IsFooterGiven, IsNoFooter, IsNoPart, IsPartLooked, IsPartRead, IsPieceRead, NeverRefused, ReadsAs, start_of};
 ghost use Rattle.root_search.specs.Fetching.{AreBlocksFetched, AreListsFetched, AreRangesFetched, AreShownFetched, AreStartsNamed, FetchesAs, IsFileAt, IsFooterFetched, IsLooked, IsPartFetched, IsPieceFetched, IsWant, WantsRoom, needed_calls, part_calls};
-ghost use Rattle.root_search.specs.SplitParts.{HoldsBlocks, HoldsListed, HoldsStarts, IsFile, IsFooterIn, IsKnown, StartsFooter, over};
+ghost use Rattle.root_search.specs.FetchedSplits.{HoldsBlocks, HoldsListed, HoldsStarts, IsFile, IsFooterIn, IsKnown, StartsFooter, over};
 
-use crate::split_parts::{KeptPiece, KeptPieces, SplitPart, lent_pieces};
+use crate::split_parts::{KeptPiece, KeptPieces, FetchedSplit, lent_pieces};
 use doc_sets::LeafError;
 use doc_value::Schema;
 use index_world::{Gate, Plan, WorldError};
@@ -402,7 +402,7 @@ fn fetch_needed<G: Gate>(
     place: u32,
     request: &LeafRequest,
     known: Option<Footer>,
-) -> Result<SplitPart, FetchError>
+) -> Result<FetchedSplit, FetchError>
     requires { place < length plan.now.rows }
     ensures step { (config : configs.IndexConfig) (documents : List Placed) (p : Parts) (core : Core) (log : Log) → G.Stands gate.old core log → IsConfigured config core →
         (file : IsFileAt core (grace_of config plan.now).until plan.now place (file_bytes p)) → IsSplitOf config.schema documents p → IsAsked config.schema request.now → IsKnown (file_bytes p) known →
@@ -415,7 +415,7 @@ fn fetch_needed<G: Gate>(
     let blocks = fetch_blocks(alloc, gate, plan, place, request, &footer)?;
     let listed = fetch_lists(alloc, gate, plan, place, request, &footer, blocks)?;
     let pieces = fetch_shown(alloc, gate, plan, place, request, &footer, listed)?;
-    Ok(SplitPart {
+    Ok(FetchedSplit {
         number,
         footer,
         pieces,
@@ -435,8 +435,8 @@ fn look<G: Gate>(
     gate: &mut G,
     plan: &Plan,
     place: u32,
-    part: SplitPart,
-) -> Result<SplitPart, FetchError>
+    part: FetchedSplit,
+) -> Result<FetchedSplit, FetchError>
     requires { place < length plan.now.rows }
     ensures step { (config : configs.IndexConfig) (bytes : List ℕ) (core : Core) (log : Log) → G.Stands gate.old core log → IsConfigured config core → (file : IsFileAt core (grace_of config plan.now).until plan.now place bytes) →
         FetchesAs (grace_of config plan.now) file.row.number G.Stands G.Between G.Adds G.bytes_fetched (IsLooked part) result core log gate.old gate.new }
@@ -460,7 +460,7 @@ pub(crate) fn fetch_part<G: Gate>(
     place: u32,
     request: &LeafRequest,
     known: Option<Footer>,
-) -> Result<SplitPart, FetchError>
+) -> Result<FetchedSplit, FetchError>
     requires { place < length plan.now.rows }
     ensures step { (config : configs.IndexConfig) (documents : List Placed) (p : Parts) (core : Core) (log : Log) → G.Stands gate.old core log → IsConfigured config core →
         (file : IsFileAt core (grace_of config plan.now).until plan.now place (file_bytes p)) → IsSplitOf config.schema documents p → IsAsked config.schema request.now → IsKnown (file_bytes p) known →

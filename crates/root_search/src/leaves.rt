@@ -9,7 +9,7 @@ ghost use Rattle.leaf_search.specs.Answers.{IsAnswerOf, IsAsked};
 ghost use Rattle.root_search.specs.Leaves.{AllJoined, AreJoined, HasAsked, HasCauseIn, IsCounted, IsFaultIn, IsFull, IsJoinOf, IsLeafAnswer, IsRefusedIn, IsViewOf, IsWholeViewOf, WantsMemory, all_of, placed_fault};
 
 use crate::joins::merged;
-use crate::splits_error::SplitsError;
+use crate::splits_error::JoinFault;
 use agg_nested::vacant_nested;
 use doc_value::Schema;
 use leaf_search::{LeafAnswer, LeafError, LeafRequest, leaf};
@@ -21,7 +21,7 @@ use std::thread::Threads;
 
 /// How splits are asked: one after the other in this thread, or in as many threads as there are processors.
 #[derive(Clone, Copy)]
-pub(crate) enum Manner {
+pub(crate) enum Threading {
     InTurn,
     InThreads,
 }
@@ -51,7 +51,7 @@ fn added(
     request: &LeafRequest,
     all: LeafAnswer,
     next: LeafAnswer,
-) -> Result<LeafAnswer, SplitsError>
+) -> Result<LeafAnswer, JoinFault>
     requires all { IsCounted request.now all }
     requires next { IsCounted request.now next }
     ensures only { (s : Schema) (xs ys : List Placed) → IsAnswerOf s request.now xs all → IsAnswerOf s request.now ys next
@@ -61,19 +61,19 @@ fn added(
     ensures full { IfErr result (IsFull (all.count + next.count)) }
 {
     if all.count + next.count >= TOO_MANY {
-        return Err(SplitsError::TooMany);
+        return Err(JoinFault::TooMany);
     }
     Ok(merged(alloc, request, all, next)?)
 }
 
 // The fault of the split at a place.
-fn fault_at(place: usize, fault: LeafError) -> SplitsError
+fn fault_at(place: usize, fault: LeafError) -> JoinFault
     ensures { result ≡ placed_fault place fault }
 {
     match fault {
-        LeafError::Memory(refused) => SplitsError::Memory(refused),
-        LeafError::Missing { at } => SplitsError::Missing { place, at },
-        LeafError::Corrupt { section } => SplitsError::Corrupt { place, section },
+        LeafError::Memory(refused) => JoinFault::Memory(refused),
+        LeafError::Missing { at } => JoinFault::Missing { place, at },
+        LeafError::Corrupt { section } => JoinFault::Corrupt { place, section },
     }
 }
 
@@ -82,7 +82,7 @@ fn joined(
     alloc: Global,
     request: &LeafRequest,
     answers: LeafAnswers,
-) -> Result<LeafAnswer, SplitsError>
+) -> Result<LeafAnswer, JoinFault>
     requires { All (λ answer. IfOk answer (IsCounted request.now)) answers.items }
     ensures only { (s : Schema) (lists : List (List Placed)) → AllZip (λ answer documents. IfOk answer (IsAnswerOf s request.now documents)) answers.items lists
         → IfOk result (IsAnswerOf s request.now (all_of lists)) }
@@ -164,7 +164,7 @@ fn answers_in_threads<Rt: Threads + Sync>(
 fn answers_of<Rt: Threads + Sync>(
     rt: &Rt,
     alloc: Global,
-    manner: Manner,
+    manner: Threading,
     schema: &Schema,
     request: &LeafRequest,
     views: &[PartView<'_>],
@@ -174,8 +174,8 @@ fn answers_of<Rt: Threads + Sync>(
     ensures { IfOk result (λ answers. AllZip (IsLeafAnswer schema.now request.now) views.now answers.items) }
 {
     match manner {
-        Manner::InTurn => answers_in_turn(alloc, schema, request, views),
-        Manner::InThreads => answers_in_threads(rt, alloc, schema, request, views),
+        Threading::InTurn => answers_in_turn(alloc, schema, request, views),
+        Threading::InThreads => answers_in_threads(rt, alloc, schema, request, views),
     }
 }
 
@@ -184,11 +184,11 @@ fn answers_of<Rt: Threads + Sync>(
 pub(crate) fn search_all<Rt: Threads + Sync>(
     rt: &Rt,
     alloc: Global,
-    manner: Manner,
+    manner: Threading,
     schema: &Schema,
     request: &LeafRequest,
     views: &[PartView<'_>],
-) -> Result<LeafAnswer, SplitsError>
+) -> Result<LeafAnswer, JoinFault>
     requires fields { length schema.now.fields ≤ 256 }
     requires intervals { HaveSteps request.now.aggs }
     // Of splits of documents, of which there are fewer than 2^62 together.

@@ -10,14 +10,14 @@ ghost use Rattle.root_search.specs.Answer.{answer};
 ghost use Rattle.root_search.specs.LeafAsks.{Asks};
 ghost use Rattle.root_search.specs.Leaves.{IsCounted, WantsMemory, all_of};
 ghost use Rattle.root_search.specs.PartAnswers.{AreAnswered, AreFound, IsCorruptAt, IsFaultAt, IsRefusedPart, IsSaidOf, IsSaidOver, WantsRoom};
-ghost use Rattle.root_search.specs.SplitParts.{HasNeeded};
-ghost use Rattle.root_search.specs.declared.leaves.Manner.TheVariants.{InTurn};
+ghost use Rattle.root_search.specs.FetchedSplits.{HasNeeded};
+ghost use Rattle.root_search.specs.declared.leaves.Threading.TheVariants.{InTurn};
 
 use crate::answers::shown;
 use crate::leaf_asks::LeafAsk;
-use crate::leaves::{Manner, search_all};
-use crate::split_parts::{KeptSplit, SplitParts, part_ways, views_of};
-use crate::splits_error::SplitsError;
+use crate::leaves::{Threading, search_all};
+use crate::split_parts::{FetchedPieces, FetchedSplits, split_footers, views_of};
+use crate::splits_error::JoinFault;
 use doc_value::Schema;
 use leaf_search::LeafAnswer;
 use meta_journal::split_key;
@@ -48,19 +48,19 @@ impl From<AllocError> for PartError {
 }
 
 // The fault of the split at a place. So many documents that they are not counted are more than a memory has.
-fn fault_of(splits: &[KeptSplit], error: SplitsError) -> PartError
+fn fault_of(splits: &[FetchedPieces], error: JoinFault) -> PartError
     ensures room { WantsMemory error → WantsRoom result }
     ensures place { IsFaultAt splits.now error result }
 {
     match error {
-        SplitsError::Memory(refused) => PartError::Memory(refused),
-        SplitsError::Missing { place, .. } => corrupt_at(splits, place),
-        SplitsError::Corrupt { place, .. } => corrupt_at(splits, place),
-        SplitsError::TooMany => PartError::Memory(AllocError),
+        JoinFault::Memory(refused) => PartError::Memory(refused),
+        JoinFault::Missing { place, .. } => corrupt_at(splits, place),
+        JoinFault::Corrupt { place, .. } => corrupt_at(splits, place),
+        JoinFault::TooMany => PartError::Memory(AllocError),
     }
 }
 
-fn corrupt_at(splits: &[KeptSplit], place: usize) -> PartError
+fn corrupt_at(splits: &[FetchedPieces], place: usize) -> PartError
     ensures { IsCorruptAt splits.now place result }
 {
     match splits.get(place) {
@@ -72,7 +72,7 @@ fn corrupt_at(splits: &[KeptSplit], place: usize) -> PartError
 }
 
 // How many bytes of a split are kept.
-fn bytes_of(split: &KeptSplit) -> usize {
+fn bytes_of(split: &FetchedPieces) -> usize {
     split.pieces.as_slice().iter().fold(
         0,
         |bytes: usize, piece| bytes.saturating_add(piece.bytes.len()),
@@ -80,7 +80,7 @@ fn bytes_of(split: &KeptSplit) -> usize {
 }
 
 // In threads where several splits are asked and enough of them is read that it pays.
-fn manner_for(splits: &[KeptSplit]) -> Manner
+fn manner_for(splits: &[FetchedPieces]) -> Threading
     ensures alone { length splits.now ≤ 1 → result ≡ InTurn }
 {
     let bytes = splits.iter().fold(
@@ -88,9 +88,9 @@ fn manner_for(splits: &[KeptSplit]) -> Manner
         |bytes: usize, split| bytes.saturating_add(bytes_of(split)),
     );
     if splits.len() > 1 && bytes > WORTH_THREADS {
-        Manner::InThreads
+        Threading::InThreads
     } else {
-        Manner::InTurn
+        Threading::InTurn
     }
 }
 
@@ -100,7 +100,7 @@ fn leaf_answer<Rt: Threads + Sync>(
     alloc: Global,
     schema: &Schema,
     ask: &LeafAsk,
-    parts: SplitParts,
+    parts: FetchedSplits,
 ) -> Result<LeafAnswer, PartError>
     requires fields { length schema.now.fields ≤ 256 }
     requires intervals { HaveSteps ask.now.request.aggs }
@@ -110,7 +110,7 @@ fn leaf_answer<Rt: Threads + Sync>(
     ensures answered { IfOk result (AreAnswered schema.now ask.now.request parts) }
     ensures refused { IfErr result (IsRefusedPart schema.now ask.now.request parts) }
 {
-    let parted = part_ways(alloc, parts)?;
+    let parted = split_footers(alloc, parts)?;
     let footers = parted.footers;
     let splits = parted.splits.as_slice();
     let views = views_of(alloc, footers, splits)?;
@@ -141,7 +141,7 @@ pub(crate) fn answer_over<Rt: Threads + Sync>(
     alloc: Global,
     schema: &Schema,
     ask: &LeafAsk,
-    parts: SplitParts,
+    parts: FetchedSplits,
 ) -> Result<Said, AllocError>
     requires fields { length schema.now.fields ≤ 256 }
     requires intervals { HaveSteps ask.now.request.aggs }

@@ -4,7 +4,7 @@ ghost use Rattle.std.specs.Prelude.{◌≡◌, true};
 ghost use Rattle.root_search.specs.Intervals.{have_steps};
 
 use crate::leaf_asks::LeafAsk;
-use crate::split_parts::SplitParts;
+use crate::split_parts::FetchedSplits;
 use index_world::Plan;
 
 /// A planned search: what it asks of each split, and what was fetched of the first rows.
@@ -14,7 +14,7 @@ pub(crate) struct Planned {
     pub plan: Plan,
     /// The place of the row that is fetched next.
     pub next: u32,
-    pub parts: SplitParts,
+    pub parts: FetchedSplits,
     // No interval of its aggregations is 0.
     ghost intervals: { have_steps ask.request.aggs ≡ true },
 }

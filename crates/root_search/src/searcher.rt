@@ -6,7 +6,7 @@ ghost use Rattle.doc_value.specs.Documents.{IsSchema};
 ghost use Rattle.doc_value.specs.declared.schema.Schema.{Schema};
 ghost use Rattle.index_world.specs.Calls.{Trouble, Unmade};
 ghost use Rattle.index_world.specs.Core.{Core, IsConfigured};
-ghost use Rattle.index_world.specs.Gate.{CanAsk, IsTrouble, IsUnmade};
+ghost use Rattle.index_world.specs.Gate.{CanAddTask, IsTrouble, IsUnmade};
 ghost use Rattle.index_config.specs.declared.config.IndexConfig as configs;
 ghost use Rattle.meta_store.specs.declared.planning.PlanRow.{PlanRow};
 ghost use Rattle.search_api.specs.Resolved.{IsDelete, IsSearch, Search};
@@ -30,7 +30,7 @@ use crate::outcome::SearchStep;
 use crate::part_answers::answer_over;
 use crate::planned::Planned;
 use crate::reads::{ReadRequest, ReadSearch};
-use crate::split_parts::{SplitPart, SplitParts};
+use crate::split_parts::{FetchedSplit, FetchedSplits};
 use byte_fields::{Client, Text};
 use index_world::{DeleteAsk, Gate, WorldError};
 use meta_journal::split_key;
@@ -104,7 +104,7 @@ fn refused_by(error: WorldError) -> Result<Refusal, AllocError>
 }
 
 // The planned search, of whose next row this part was fetched.
-fn with_part(mut planned: Planned, part: SplitPart) -> Result<Planned, AllocError>
+fn with_part(mut planned: Planned, part: FetchedSplit) -> Result<Planned, AllocError>
     ensures ask { IfOk result (λ later. later.ask ≡ planned.ask) }
     ensures plan { IfOk result (λ later. later.plan ≡ planned.plan) }
     ensures next { IfOk result (λ later. later.next ≡ min (planned.next + 1) (2 ^ 32 - 1)) }
@@ -298,7 +298,7 @@ impl Searcher {
                     ask: read.ask,
                     plan,
                     next: 0,
-                    parts: SplitParts::vacant(alloc),
+                    parts: FetchedSplits::vacant(alloc),
                 }));
                 mem::drop(read.choice);
                 Ok(SearchStep::Planned { revision, count })
@@ -317,7 +317,7 @@ impl Searcher {
         gate: &mut G,
         ask: &DeleteAsk,
     ) -> Result<SearchStep, AllocError>
-        requires { CanAsk ask.now }
+        requires { CanAddTask ask.now }
         ensures step { (text : List ℕ) (deletion : Deletion) (config : configs.IndexConfig) (client : steps.Client) (core : Core) (log : Log) →
             IsConfigured config core → asked_of config text ≡ Ok (IsDelete deletion) → ask.now ≡ ask_of deletion → client.request ≡ opened text →
             G.Stands gate.old core log → IsAtWork self.old client core →

@@ -3,8 +3,8 @@
 ghost use Rattle.std.specs.Prelude.{◌≡◌, IfOk, List};
 ghost use Rattle.std.specs.List.{AllZip};
 ghost use Rattle.root_search.specs.PartAnswers.{IsViewOfPart};
-ghost use Rattle.root_search.specs.SplitParts.{IsLentOf, IsParted};
-ghost use Rattle.root_search.specs.declared.split_parts.SplitPart.{SplitPart as Part};
+ghost use Rattle.root_search.specs.FetchedSplits.{IsLentOf, IsParted};
+ghost use Rattle.root_search.specs.declared.split_parts.FetchedSplit.{FetchedSplit as Part};
 
 use byte_fields::{Bytes, List};
 use split_bundle::{FilePiece, Footer, PartView, Pieces};
@@ -23,18 +23,18 @@ pub(crate) type KeptPieces = List<KeptPiece>;
 
 /// What is fetched of a split: its footer, and the pieces of its file that are needed.
 #[derive(Drop)]
-pub(crate) struct SplitPart {
+pub(crate) struct FetchedSplit {
     pub number: u64,
     pub footer: Footer,
     pub pieces: KeptPieces,
 }
 
 /// Parts of splits in their order.
-pub(crate) type SplitParts = List<SplitPart>;
+pub(crate) type FetchedSplits = List<FetchedSplit>;
 
 // What is kept of a split beside its footer.
 #[derive(Drop)]
-pub(crate) struct KeptSplit {
+pub(crate) struct FetchedPieces {
     pub(crate) number: u64,
     pub(crate) pieces: KeptPieces,
 }
@@ -43,11 +43,11 @@ pub(crate) struct KeptSplit {
 #[derive(Drop)]
 pub(crate) struct PartedSplits {
     pub(crate) footers: Vec<Footer>,
-    pub(crate) splits: List<KeptSplit>,
+    pub(crate) splits: List<FetchedPieces>,
 }
 
 // Parts footers from what else is kept, so that a view can have its footer and borrow its pieces.
-pub(crate) fn part_ways(alloc: Global, parts: SplitParts) -> Result<PartedSplits, AllocError>
+pub(crate) fn split_footers(alloc: Global, parts: FetchedSplits) -> Result<PartedSplits, AllocError>
     ensures { IfOk result (λ parted. IsParted parts parted.footers.items parted.splits) }
 {
     let mut left = VecDeque::from_vec(parts.into_vec());
@@ -55,7 +55,7 @@ pub(crate) fn part_ways(alloc: Global, parts: SplitParts) -> Result<PartedSplits
     let mut splits = List::vacant(alloc);
     while let Some(part) = left.pop_front() {
         footers.push(part.footer)?;
-        splits.push(KeptSplit {
+        splits.push(FetchedPieces {
             number: part.number,
             pieces: part.pieces,
         })?;
@@ -89,7 +89,7 @@ fn view_of(alloc: Global, footer: Footer, pieces: &[KeptPiece]) -> Result<PartVi
 pub(crate) fn views_of(
     alloc: Global,
     footers: Vec<Footer>,
-    splits: &[KeptSplit],
+    splits: &[FetchedPieces],
 ) -> Result<List<PartView<'_>>, AllocError>
     ensures { (parts : List Part) → IsParted parts footers.items splits.now → IfOk result (AllZip IsViewOfPart parts) }
 {

@@ -5,7 +5,7 @@ use thiserror::Error;
 
 /// Why splits give no answer together. `place` is that of a split's view in the list of them.
 #[derive(Debug, Drop, Error)]
-pub(crate) enum SplitsError {
+pub(crate) enum JoinFault {
     #[error("no memory for the answers of splits")]
     Memory(AllocError),
     /// A part of the file is asked for that starts there, and no piece has it.
@@ -19,13 +19,13 @@ pub(crate) enum SplitsError {
     TooMany,
 }
 
-impl From<AllocError> for SplitsError {
+impl From<AllocError> for JoinFault {
     ghost use Rattle.std.specs.Prelude.{◌≡◌};
-    ghost use Rattle.root_search.specs.declared.splits_error.SplitsError.TheVariants.{Memory};
+    ghost use Rattle.root_search.specs.declared.splits_error.JoinFault.TheVariants.{Memory};
 
     ghost from_gives = { λ a e. e ≡ Memory a };
 
     fn from(refused: AllocError) -> Self {
-        SplitsError::Memory(refused)
+        JoinFault::Memory(refused)
     }
 }

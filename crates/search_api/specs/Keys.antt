@@ -5,8 +5,8 @@ use Rattle.serde_json.specs.Data.{Data, Items, no_items, item, Members, no_membe
 use Rattle.serde_json.specs.Find.{as_array, as_object, get}
 use Rattle.search_api.specs.declared.keys.AggKind.{AggKind}
 use Rattle.search_api.specs.declared.keys.AggKind.TheVariants as agg_kinds
-use Rattle.search_api.specs.declared.keys.Place.{Place}
-use Rattle.search_api.specs.declared.keys.Place.TheVariants as places
+use Rattle.search_api.specs.declared.keys.KeyPlace.{KeyPlace}
+use Rattle.search_api.specs.declared.keys.KeyPlace.TheVariants as places
 
 -- the keys of a delete, which a search has too
 abbrev pub is_selection_key : List ℕ → Bool
@@ -69,7 +69,7 @@ is_key_in agg_kinds.ValueCount k = bytes_eq k (codes "field")
 abbrev pub is_edge_key : List ℕ → Bool
 is_edge_key k = bytes_eq k (codes "from") || bytes_eq k (codes "to")
 
-abbrev pub is_known : Place → List ℕ → Bool
+abbrev pub is_known : KeyPlace → List ℕ → Bool
 is_known places.AroundSearch k = bytes_eq k (codes "search")
 is_known places.AroundDelete k = bytes_eq k (codes "delete")
 is_known places.Search k = is_search_key k
@@ -84,16 +84,16 @@ first_of None later = later
 first_of (Some x) later = Some x
 
 -- the first of an object's keys that doesn't stand at its place; the members are in byte order of their keys
-abbrev pub first_unknown : Place → Members → Option (List ℕ)
+abbrev pub first_unknown : KeyPlace → Members → Option (List ℕ)
 first_unknown place no_members = None
 first_unknown place (member k d ms) = if is_known place k then first_unknown place ms else Some k
 
 -- no value but an object has keys
-abbrev pub unknown_among : Place → Option Members → Option (List ℕ)
+abbrev pub unknown_among : KeyPlace → Option Members → Option (List ℕ)
 unknown_among place None = None
 unknown_among place (Some ms) = first_unknown place ms
 
-abbrev pub unknown_in : Place → Data → Option (List ℕ)
+abbrev pub unknown_in : KeyPlace → Data → Option (List ℕ)
 unknown_in place d = unknown_among place (as_object d)
 
 abbrev pub unknown_within : (Data → Option (List ℕ)) → Option Data → Option (List ℕ)
@@ -120,7 +120,7 @@ unknown_in_kinds [] d = None
 unknown_in_kinds (kind ∷ kinds) d = first_of (unknown_within (unknown_of kind) (get (key_of kind) d)) (unknown_in_kinds kinds d)
 
 -- an aggregation's own keys, then those of its kinds in byte order of the kinds
-unfoldable pub unknown_in_flat : Place → Data → Option (List ℕ)
+unfoldable pub unknown_in_flat : KeyPlace → Data → Option (List ℕ)
 unknown_in_flat place d = first_of (unknown_in place d) (unknown_in_kinds all_kinds d)
 
 abbrev pub has : List ℕ → Data → Bool
@@ -132,7 +132,7 @@ is_nesting d =
     (has (codes "terms") d || has (codes "histogram") d || has (codes "date_histogram") d || has (codes "range") d)
     && not (has (codes "min") d || has (codes "max") d || has (codes "sum") d || has (codes "value_count") d)
 
-abbrev pub place_of : Data → Place
+abbrev pub place_of : Data → KeyPlace
 place_of d = if is_nesting d then places.Nesting else places.Aggregation
 
 abbrev pub unknown_in_nested : Members → Option (List ℕ)

@@ -47,7 +47,7 @@ pub fn key_of(kind: AggKind) -> &'static str
 
 /// The objects of a request.
 #[derive(Clone, Copy)]
-pub enum Place {
+pub enum KeyPlace {
     /// The whole, where a search is asked.
     AroundSearch,
     /// The whole, where a delete is asked.
@@ -155,17 +155,17 @@ fn is_key_in(kind: AggKind, key: &[u8]) -> bool
 }
 
 /// Whether a key stands at this place.
-pub fn is_known(place: Place, key: &[u8]) -> bool
+pub fn is_known(place: KeyPlace, key: &[u8]) -> bool
     ensures { result ≡ spec.is_known place key.now }
 {
     match place {
-        Place::AroundSearch => is_same(key, b"search"),
-        Place::AroundDelete => is_same(key, b"delete"),
-        Place::Search => is_search_key(key),
-        Place::Delete => is_selection_key(key),
-        Place::Aggregation => is_kind_key(key),
-        Place::Nesting => is_kind_key(key) || is_same(key, b"aggs"),
-        Place::Kind(kind) => is_key_in(kind, key),
-        Place::Edges => is_same(key, b"from") || is_same(key, b"to"),
+        KeyPlace::AroundSearch => is_same(key, b"search"),
+        KeyPlace::AroundDelete => is_same(key, b"delete"),
+        KeyPlace::Search => is_search_key(key),
+        KeyPlace::Delete => is_selection_key(key),
+        KeyPlace::Aggregation => is_kind_key(key),
+        KeyPlace::Nesting => is_kind_key(key) || is_same(key, b"aggs"),
+        KeyPlace::Kind(kind) => is_key_in(kind, key),
+        KeyPlace::Edges => is_same(key, b"from") || is_same(key, b"to"),
     }
 }

@@ -5,10 +5,10 @@ ghost use Rattle.serde_json.specs.Find.{get};
 ghost use Rattle.serde_json.specs.View.{view, items_view, members_view};
 ghost use Rattle.search_api.specs.Keys as spec;
 
-use crate::keys::{ALL_KINDS, AggKind, Place, is_known, key_of};
+use crate::keys::{ALL_KINDS, AggKind, KeyPlace, is_known, key_of};
 use serde_json::{Map, Value};
 
-fn first_unknown<'a>(place: Place, members: &'a Map<String, Value>) -> Option<&'a str>
+fn first_unknown<'a>(place: KeyPlace, members: &'a Map<String, Value>) -> Option<&'a str>
     ensures { option_map (λ key. key.now) result ≡ spec.first_unknown place (members_view members.now.entries) }
 {
     for (key, _) in members {
@@ -20,7 +20,7 @@ fn first_unknown<'a>(place: Place, members: &'a Map<String, Value>) -> Option<&'
 }
 
 /// In an object; no other value has keys.
-fn unknown_in(place: Place, value: &Value) -> Option<&str>
+fn unknown_in(place: KeyPlace, value: &Value) -> Option<&str>
     ensures { option_map (λ key. key.now) result ≡ spec.unknown_in place (view value.now) }
 {
     match value.as_object() {
@@ -33,7 +33,7 @@ fn unknown_in_items(items: &[Value]) -> Option<&str>
     ensures { option_map (λ key. key.now) result ≡ spec.unknown_in_items (items_view items.now) }
 {
     for item in items {
-        if let Some(key) = unknown_in(Place::Edges, item) {
+        if let Some(key) = unknown_in(KeyPlace::Edges, item) {
             return Some(key);
         }
     }
@@ -55,7 +55,7 @@ fn unknown_in_ranges(value: &Value) -> Option<&str>
 fn unknown_of(kind: AggKind, value: &Value) -> Option<&str>
     ensures { option_map (λ key. key.now) result ≡ spec.unknown_of kind (view value.now) }
 {
-    if let Some(key) = unknown_in(Place::Kind(kind), value) {
+    if let Some(key) = unknown_in(KeyPlace::Kind(kind), value) {
         return Some(key);
     }
     match value.get("ranges") {
@@ -86,7 +86,7 @@ fn unknown_in_kinds<'a>(kinds: &[AggKind], value: &'a Value) -> Option<&'a str>
 
 /// An aggregation's own keys, then those of its kinds in byte order of the kinds.
 #[tactic(auto, unfolding(crate::specs::Keys::unknown_in_flat))]
-fn unknown_in_flat(place: Place, value: &Value) -> Option<&str>
+fn unknown_in_flat(place: KeyPlace, value: &Value) -> Option<&str>
     ensures { option_map (λ key. key.now) result ≡ spec.unknown_in_flat place (view value.now) }
 {
     if let Some(key) = unknown_in(place, value) {
@@ -117,13 +117,13 @@ fn is_nesting(value: &Value) -> bool
     buckets && !metric
 }
 
-fn place_of(value: &Value) -> Place
+fn place_of(value: &Value) -> KeyPlace
     ensures { result ≡ spec.place_of (view value.now) }
 {
     if is_nesting(value) {
-        Place::Nesting
+        KeyPlace::Nesting
     } else {
-        Place::Aggregation
+        KeyPlace::Aggregation
     }
 }
 
@@ -131,7 +131,7 @@ fn unknown_in_nested(members: &Map<String, Value>) -> Option<&str>
     ensures { option_map (λ key. key.now) result ≡ spec.unknown_in_nested (members_view members.now.entries) }
 {
     for (_, value) in members {
-        if let Some(key) = unknown_in_flat(Place::Aggregation, value) {
+        if let Some(key) = unknown_in_flat(KeyPlace::Aggregation, value) {
             return Some(key);
         }
     }
@@ -187,7 +187,7 @@ fn unknown_in_aggs(value: &Value) -> Option<&str>
 fn unknown_in_search(value: &Value) -> Option<&str>
     ensures { option_map (λ key. key.now) result ≡ spec.unknown_in_search (view value.now) }
 {
-    if let Some(key) = unknown_in(Place::Search, value) {
+    if let Some(key) = unknown_in(KeyPlace::Search, value) {
         return Some(key);
     }
     match value.get("aggs") {
@@ -202,12 +202,12 @@ pub fn unknown_key(value: &Value) -> Option<&str>
     ensures { option_map (λ key. key.now) result ≡ spec.unknown_key (view value.now) }
 {
     if let Some(delete) = value.get("delete") {
-        if let Some(key) = unknown_in(Place::AroundDelete, value) {
+        if let Some(key) = unknown_in(KeyPlace::AroundDelete, value) {
             return Some(key);
         }
-        return unknown_in(Place::Delete, delete);
+        return unknown_in(KeyPlace::Delete, delete);
     }
-    if let Some(key) = unknown_in(Place::AroundSearch, value) {
+    if let Some(key) = unknown_in(KeyPlace::AroundSearch, value) {
         return Some(key);
     }
     match value.get("search") {

@@ -15,7 +15,7 @@ use Rattle.index_world.specs.Calls.{Fate, Trouble, Unmade, as_unmade, begun, cal
 use Rattle.index_world.specs.Collecting.{doom_call, is_left, is_past, is_swept, mark_stale_call, remove_call, sweep_call, sweep_if}
 use Rattle.index_world.specs.Core.{Core, file_at, last_count}
 use Rattle.split_collector.specs.Outcomes.{Doomed, Outcome, Nothing, Swept}
-use Rattle.split_collector.specs.Steps.{IsCalm, Luck, Stand, alone, called, calm_luck, end_at, ends_behind, failed_with, first_end, least_left, max_calls, numbers_from, other_ends, outcomes, stand, step_collector, stepped, turned}
+use Rattle.split_collector.specs.Steps.{IsCalm, CollectorLuck, Stand, alone, called, calm_luck, end_at, ends_behind, failed_with, first_end, least_left, max_calls, numbers_from, other_ends, outcomes, stand, step_collector, stepped, turned}
 use Rattle.split_collector.specs.Turns.{Turn, behind_delete, behind_doom, counted, ended, next_behind, page_turn, paging, to_doom, to_list, to_mark, to_remove, to_sweep}
 use Rattle.split_collector.proofs.Alone.{ended_stays}
 use Rattle.split_collector.proofs.Gone.{both, swept_history}
@@ -298,7 +298,7 @@ calm_as_none (suc calls) turn (fate ∷ fates) ends core calm =
 at_most : (ends : List (List ℕ)) (more : List Fate) → 5 + 2 * length ends ≤ 5 + 2 * length ends + length more
 at_most ends more = omega arith
 
-pub calm_same : (luck : Luck) (core : Core) → IsCalm luck → last_number (history (step_collector luck core).core.history) < 2 ^ 64 → step_collector luck core ≡ step_collector calm_luck core
+pub calm_same : (luck : CollectorLuck) (core : Core) → IsCalm luck → last_number (history (step_collector luck core).core.history) < 2 ^ 64 → step_collector luck core ≡ step_collector calm_luck core
 calm_same luck core calm small =
     let all : AllByRecursion (λ fate. fate ≡ calm_fate) (luck.world ∷ luck.more) = (calm.world, calm.more) in
     let none = calm_as_none (max_calls luck) to_mark (luck.world ∷ luck.more) luck.ends core all in

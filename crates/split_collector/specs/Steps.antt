@@ -73,7 +73,7 @@ turned (ended outcome) luck core = stand (ended outcome) core
 
 -- The fate of one step: its first call, its further calls, where the pages end that it lists one behind another, and whether it finds no memory
 -- behind them. A further call that has no fate here is calm, and a page that has no end here is the last.
-pub record Luck : Type 0 where
+pub record CollectorLuck : Type 0 where
   pub world : Fate
   pub more : List Fate
   pub ends : List (List ℕ)
@@ -125,7 +125,7 @@ alone (suc calls) turn fates ends core =
     alone calls left.turn (other_fates fates) (ends_behind turn ends) left.core
 
 -- three calls, and two for each page
-abbrev pub max_calls : Luck → ℕ
+abbrev pub max_calls : CollectorLuck → ℕ
 max_calls luck = 5 + 2 * length luck.ends + length luck.more
 
 abbrev pub outcome_at : Turn (Option Outcome) → Option Outcome
@@ -143,7 +143,7 @@ outcome_unless false outcome = outcome
 abbrev pub stepped : (short : Bool) → Stand → Stepped
 stepped short stand = record { outcome = outcome_unless short (outcome_at stand.turn); core = stand.core }
 
-abbrev pub step_collector : Luck → Core → Stepped
+abbrev pub step_collector : CollectorLuck → Core → Stepped
 step_collector luck core = stepped luck.short (alone (max_calls luck) to_mark (luck.world ∷ luck.more) luck.ends core)
 
 -- ---- a step between whose calls other actors act
@@ -198,11 +198,11 @@ AreRecorded turn (passage ∷ more) made =
 
 -- ---- calm
 
-abbrev pub calm_luck : Luck
+abbrev pub calm_luck : CollectorLuck
 calm_luck = record { world = calm_fate; more = []; ends = []; short = false }
 
 -- every call of it is calm, wherever its pages end
-pub record IsCalm (luck : Luck) : Type 0 where
+pub record IsCalm (luck : CollectorLuck) : Type 0 where
   pub world : luck.world ≡ calm_fate
   pub more : AllByRecursion (λ fate. fate ≡ calm_fate) luck.more
   pub enough : luck.short ≡ false
@@ -220,5 +220,5 @@ abbrev pub ends_of : List Passage → List (List ℕ)
 ends_of [] = []
 ends_of (passage ∷ more) = with_end passage.luck.end (ends_of more)
 
-abbrev pub luck_of : List Passage → Luck
+abbrev pub luck_of : List Passage → CollectorLuck
 luck_of passages = record { world = first_fate (fates_of passages); more = other_fates (fates_of passages); ends = ends_of passages; short = false }

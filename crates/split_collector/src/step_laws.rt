@@ -6,7 +6,7 @@ ghost use Rattle.index_world.specs.Core.{Core};
 ghost use Rattle.index_world.specs.Gate.{NoneBetween};
 ghost use Rattle.split_collector.specs.Idle.{HadNothing};
 ghost use Rattle.split_collector.specs.Outcomes.{Outcome, Nothing};
-ghost use Rattle.split_collector.specs.Steps.{ArePassed, IsCalm, Luck, Passage, alone, calm_luck, luck_of, ran, stand, step_collector};
+ghost use Rattle.split_collector.specs.Steps.{ArePassed, IsCalm, CollectorLuck, Passage, alone, calm_luck, luck_of, ran, stand, step_collector};
 ghost use Rattle.split_collector.specs.Turns.{ended, to_mark};
 
 use index_world::Gate;
@@ -31,6 +31,6 @@ pub fn pages_make_no_difference()
 
 /// So each step whose calls are calm is the one.
 pub fn calm_steps_agree()
-    ensures { (luck : Luck) (core : Core) → IsCalm luck → last_number (history (step_collector luck core).core.history) < 2 ^ 64 →
+    ensures { (luck : CollectorLuck) (core : Core) → IsCalm luck → last_number (history (step_collector luck core).core.history) < 2 ^ 64 →
         step_collector luck core ≡ step_collector calm_luck core }
 {}

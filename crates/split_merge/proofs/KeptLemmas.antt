@@ -11,7 +11,7 @@ use Rattle.split_bundle.specs.declared.split_error.SplitError.TheVariants as spl
 use Rattle.split_merge.specs.Faults.{IsWant}
 use Rattle.split_merge.specs.declared.merge_error.MergeError.{MergeError}
 use Rattle.split_merge.specs.declared.merge_error.MergeError.TheVariants.{Memory, Split, Build}
-use Rattle.split_merge.specs.Merging.{Blames, HasCause, HasFault, IsFaulty, IsMemory, fault_of}
+use Rattle.split_merge.specs.Merging.{Blames, IsMergeFault, HasFault, IsFaulty, IsMemory, fault_of}
 use Rattle.split_merge.specs.Keeping.{is_named, kept_from, RiseFrom, ViewsSplit, AreViewsOf}
 
 -- ---- places
@@ -102,7 +102,7 @@ all_push P (y ∷ ys) x all here = (all.0, all_push P ys x all.1 here)
 -- ---- faults
 
 -- a fault of a view that is of a split of documents is want of memory
-pub fault_cause : (s : Schema) (views : List SplitView) (number : ℕ) (v : SplitView) (e : SplitError) → slice_get views number ≡ Some v → ((documents : List Placed) → ViewsSplit s v documents → IsWant e) → HasCause s views (fault_of number e)
+pub fault_cause : (s : Schema) (views : List SplitView) (number : ℕ) (v : SplitView) (e : SplitError) → slice_get views number ≡ Some v → ((documents : List Placed) → ViewsSplit s v documents → IsWant e) → IsMergeFault s views (fault_of number e)
 fault_cause s views number v (split.Memory a) is only = tt
 fault_cause s views number v split.BadMagic is only = record { view = v; is_there = is; is_none = only }
 fault_cause s views number v (split.Truncated at) is only = record { view = v; is_there = is; is_none = only }

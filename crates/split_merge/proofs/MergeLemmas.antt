@@ -12,7 +12,7 @@ use Rattle.split_build.specs.Limits.{MakeNone}
 use Rattle.split_merge.specs.declared.merge_error.MergeError.{MergeError}
 use Rattle.split_merge.specs.declared.merge_error.MergeError.TheVariants.{Memory, Split, Build}
 use Rattle.split_merge.specs.Kept.{KeepsAll}
-use Rattle.split_merge.specs.Merging.{Blames, HasCause, HoldsDocuments, IsMemory, Merges, MergesAs, MergesRead, refusal_of}
+use Rattle.split_merge.specs.Merging.{Blames, IsMergeFault, HoldsDocuments, IsMemory, Merges, MergesAs, MergesRead, refusal_of}
 
 pub merges_by : (s : Schema) (ds : List Placed) (r : Result BuiltSplit MergeError) → MatchResult r (IsBuilt s ds) IsMemory → Merges s ds r
 merges_by s ds (Ok built) h = h
@@ -37,7 +37,7 @@ refused_reads s ds (build.Memory a) none = tt
 refused_reads s ds (build.TooManyDocs count) none = none
 refused_reads s ds (build.TooLarge weight) none = none
 
-pub refused_cause : (s : Schema) (views : List SplitView) (e : BuildError) → HasCause s views (refusal_of e)
+pub refused_cause : (s : Schema) (views : List SplitView) (e : BuildError) → IsMergeFault s views (refusal_of e)
 refused_cause s views (build.Memory a) = tt
 refused_cause s views (build.TooManyDocs count) = tt
 refused_cause s views (build.TooLarge weight) = tt

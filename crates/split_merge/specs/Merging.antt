@@ -47,10 +47,10 @@ HasFault s views number (split.BadSection section) = IsFaulty s views number
 HasFault s views number (split.BadVersion version) = IsFaulty s views number
 
 -- a split is named only where it is of no documents
-abbrev pub HasCause : Schema → List SplitView → MergeError → Type 0
-HasCause s views (Memory a) = ⊤
-HasCause s views (Split number e) = HasFault s views number e
-HasCause s views (Build e) = ⊤
+abbrev pub IsMergeFault : Schema → List SplitView → MergeError → Type 0
+IsMergeFault s views (Memory a) = ⊤
+IsMergeFault s views (Split number e) = HasFault s views number e
+IsMergeFault s views (Build e) = ⊤
 
 -- want of memory, or a fault of a split that is named only where it is of no documents
 abbrev pub Blames : Schema → List SplitView → MergeError → Type 0

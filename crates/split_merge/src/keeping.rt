@@ -5,7 +5,7 @@ ghost use Rattle.doc_value.specs.Documents.{IsSchema};
 ghost use Rattle.split_bundle.specs.declared.placed.Placed.{Placed};
 ghost use Rattle.split_merge.specs.Keeping.{is_named, RiseFrom};
 ghost use Rattle.split_merge.specs.Kept.{HasKept, Keeps, KeepsAll};
-ghost use Rattle.split_merge.specs.Merging.{HasCause, fault_of};
+ghost use Rattle.split_merge.specs.Merging.{IsMergeFault, fault_of};
 ghost use Rattle.split_merge.specs.Places.{ArePlaces};
 ghost use Rattle.split_merge.specs.Reading.{behind, document_of, documents_of, read_kept, unless};
 
@@ -122,7 +122,7 @@ pub(crate) fn kept_documents<'a>(
     requires schema { IsSchema schema.now }
     requires rise { RiseFrom 0 dropped.now }
     ensures exact { KeepsAll schema.now result (read_kept schema.now dropped.now views.now) }
-    ensures cause { IfErr result (HasCause schema.now views.now) }
+    ensures cause { IfErr result (IsMergeFault schema.now views.now) }
 {
     let mut documents = KeptDocuments::vacant(alloc, schema)?;
     let mut rest = dropped;

@@ -8,7 +8,7 @@ ghost use Rattle.split_bundle.specs.declared.placed.Placed.{Placed};
 ghost use Rattle.split_bundle.specs.Documents.{total_weight};
 ghost use Rattle.split_merge.specs.Keeping.{kept, joined, RiseFrom, AreViewsOf};
 ghost use Rattle.split_merge.specs.Kept.{HasKept};
-ghost use Rattle.split_merge.specs.Merging.{Blames, HasCause, HoldsDocuments, IsMemory, Merges, MergesAs, MergesRead, refusal_of};
+ghost use Rattle.split_merge.specs.Merging.{Blames, IsMergeFault, HoldsDocuments, IsMemory, Merges, MergesAs, MergesRead, refusal_of};
 ghost use Rattle.split_merge.specs.Reading.{read_kept};
 
 use crate::MergeError;
@@ -87,7 +87,7 @@ fn join_documents(
     requires kept { (ds : List Placed) × HasKept documents schema.now ds }
     ensures only { (lists : List (List Placed)) → HasKept documents.entry schema.now (kept dropped.now (joined lists)) → AreViewsOf schema.now views.now lists → Merges schema.now (kept dropped.now (joined lists)) result }
     ensures read { (ds : List Placed) → HasKept documents.entry schema.now ds → MergesRead schema.now ds result }
-    ensures cause { IfErr result (HasCause schema.now views.now) }
+    ensures cause { IfErr result (IsMergeFault schema.now views.now) }
 {
     let (count, weight) = documents.count_and_weight();
     match within_limits(count, weight) {
@@ -109,7 +109,7 @@ pub fn merge(
     // Of views of splits: what is built of the documents that are kept.
     ensures only { (lists : List (List Placed)) → AreViewsOf schema.now views.now lists → Merges schema.now (kept dropped.now (joined lists)) result }
     // Of any views: one that is named is of no split of documents.
-    ensures cause { IfErr result (HasCause schema.now views.now) }
+    ensures cause { IfErr result (IsMergeFault schema.now views.now) }
     // Of any views: what is read of them, document by document. Where each document that is kept reads, the file is of exactly
     // these and the limits count exactly these; where one does not, the first of those is the answer, with its view and its fault.
     ensures exact { MergesAs schema.now (read_kept schema.now dropped.now views.now) result }

@@ -8,8 +8,8 @@ use Rattle.term_dict.specs.declared.block.Block.{Block}
 use Rattle.term_dict.specs.declared.block.Entry.{Entry}
 use Rattle.term_dict.specs.declared.dict.Dict.{Dict}
 use Rattle.term_dict.specs.declared.range.TermRange.{TermRange}
-use Rattle.term_dict.specs.declared.range.End.{End}
-use Rattle.term_dict.specs.declared.range.End.TheVariants.{Below, Prefix}
+use Rattle.term_dict.specs.declared.range.RangeEnd.{RangeEnd}
+use Rattle.term_dict.specs.declared.range.RangeEnd.TheVariants.{Below, Prefix}
 
 -- a block over the bytes of these terms
 pub record IsBlock (b : Block) (terms : List Term) : Type 0 where
@@ -31,7 +31,7 @@ abbrev pub term_of : Entry → Term
 term_of e = record { key = e.key.now; info = e.info }
 
 -- which keys stand before the end of a range
-abbrev pub is_before_end : End → List ℕ → Bool
+abbrev pub is_before_end : RangeEnd → List ℕ → Bool
 is_before_end (Below high) key = is_below key high.now
 is_before_end (Prefix prefix) key = starts_with nat_eq key prefix.now
 

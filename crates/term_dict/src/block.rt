@@ -9,7 +9,7 @@ ghost use Rattle.term_dict.specs.Readers.{IsReadTerm, Lends, term_of};
 ghost use Rattle.term_dict.specs.declared.term.Term.{Term};
 
 use crate::index::{is_below, is_same};
-use crate::range::End;
+use crate::range::RangeEnd;
 use crate::{TermInfo, TermRange};
 use byte_fields::{Corrupt, take_bytes, take_varint};
 
@@ -54,7 +54,7 @@ impl<'a> Block<'a> {
         Ok(TermRange {
             area: self.bytes,
             at,
-            end: End::Prefix(prefix),
+            end: RangeEnd::Prefix(prefix),
         })
     }
 
@@ -69,7 +69,7 @@ impl<'a> Block<'a> {
         Ok(TermRange {
             area: self.bytes,
             at,
-            end: End::Below(high),
+            end: RangeEnd::Below(high),
         })
     }
 }

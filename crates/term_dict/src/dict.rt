@@ -11,7 +11,7 @@ ghost use Rattle.term_dict.specs.declared.index.BlockStart.{BlockStart};
 ghost use Rattle.term_dict.specs.declared.term.Term.{Term};
 
 use crate::block::{find_from, scan};
-use crate::range::End;
+use crate::range::RangeEnd;
 use crate::{BlockIndex, TermInfo, TermRange};
 use byte_fields::Corrupt;
 
@@ -61,7 +61,7 @@ impl<'a> Dict<'a> {
         Ok(TermRange {
             area: self.area,
             at,
-            end: End::Prefix(prefix),
+            end: RangeEnd::Prefix(prefix),
         })
     }
 
@@ -76,7 +76,7 @@ impl<'a> Dict<'a> {
         Ok(TermRange {
             area: self.area,
             at,
-            end: End::Below(high),
+            end: RangeEnd::Below(high),
         })
     }
 

@@ -8,20 +8,20 @@ use byte_fields::Corrupt;
 
 /// Which keys a range has, among those not below its first.
 #[derive(Clone, Copy)]
-pub(crate) enum End<'a> {
+pub(crate) enum RangeEnd<'a> {
     Below(&'a [u8]),
     Prefix(&'a [u8]),
 }
 
-impl End<'_> {
+impl RangeEnd<'_> {
     ghost use Rattle.term_dict.specs.Readers.{is_before_end};
 
     fn is_before(&self, key: &[u8]) -> bool
         ensures { result ≡ is_before_end self.now key.now }
     {
         match self {
-            End::Below(high) => is_below(key, high),
-            End::Prefix(prefix) => key.starts_with(prefix),
+            RangeEnd::Below(high) => is_below(key, high),
+            RangeEnd::Prefix(prefix) => key.starts_with(prefix),
         }
     }
 }
@@ -31,7 +31,7 @@ impl End<'_> {
 pub struct TermRange<'a> {
     pub(crate) area: &'a [u8],
     pub(crate) at: usize,
-    pub(crate) end: End<'a>,
+    pub(crate) end: RangeEnd<'a>,
     ghost within: { at ≤ length area.now },
 }
 

@@ -24,7 +24,7 @@ use Rattle.split_bundle.specs.Splits.{IsSplit, IsSplitOf}
 use Rattle.split_bundle.specs.declared.placed.Placed.{Placed}
 use Rattle.split_bundle.specs.declared.split_view.SplitView.{SplitView}
 use Rattle.split_merge.specs.Keeping.{ViewsSplit, is_named, joined, kept, kept_from}
-use Rattle.split_merge.specs.Merging.{HasCause, HasFault, IsFaulty, Merges, fault_of}
+use Rattle.split_merge.specs.Merging.{IsMergeFault, HasFault, IsFaulty, Merges, fault_of}
 use Rattle.split_bundle.specs.declared.split_error.SplitError.{SplitError}
 use Rattle.split_bundle.specs.declared.split_error.SplitError.TheVariants as split
 use Rattle.split_merge.specs.declared.merge_error.MergeError.{MergeError}
@@ -215,12 +215,12 @@ module _ (s : Schema) (files : List (List ℕ)) (views : List SplitView) (h : Al
   no_split_at (split.BadSection section) fault = faulty_file fault
   no_split_at (split.BadVersion version) fault = faulty_file fault
 
-pub no_split : (s : Schema) (files : List (List ℕ)) (views : List SplitView) (error : MergeError) → AllZip (Viewed s) files views → HasCause s views error → HasNoSplit s files error
+pub no_split : (s : Schema) (files : List (List ℕ)) (views : List SplitView) (error : MergeError) → AllZip (Viewed s) files views → IsMergeFault s views error → HasNoSplit s files error
 no_split s files views (Memory a) h cause = tt
 no_split s files views (Build e) h cause = tt
 no_split s files views (Split number e) h cause = no_split_at s files views h number e cause
 
-pub if_no_split : (s : Schema) (files : List (List ℕ)) (views : List SplitView) (result : Result BuiltSplit MergeError) → AllZip (Viewed s) files views → IfErr result (HasCause s views) → IfErr result (HasNoSplit s files)
+pub if_no_split : (s : Schema) (files : List (List ℕ)) (views : List SplitView) (result : Result BuiltSplit MergeError) → AllZip (Viewed s) files views → IfErr result (IsMergeFault s views) → IfErr result (HasNoSplit s files)
 if_no_split s files views (Ok built) h cause = tt
 if_no_split s files views (Err error) h cause = no_split s files views error h cause
 

@@ -26,7 +26,7 @@ use Rattle.upkeep_run.specs.Outcomes as outcomes
 use Rattle.upkeep_run.specs.Outcomes.{UpkeepOutcome}
 use Rattle.upkeep_run.specs.Places.{IsPlannedFor, IsRowInHand, IsWork, Work, fetching, until_of}
 use Rattle.upkeep_run.specs.Standing.{Answers, PlaceStands, StepsAs, WorkStands}
-use Rattle.upkeep_run.specs.Steps.{Luck, fetch_by, fetch_given, grace_in, or_short, step_work, step_worker, trouble_outcome}
+use Rattle.upkeep_run.specs.Steps.{WorkerLuck, fetch_by, fetch_given, grace_in, or_short, step_work, step_worker, trouble_outcome}
 use Rattle.upkeep_run.specs.declared.outcome.UpkeepOutcome.{UpkeepOutcome as Said}
 use Rattle.upkeep_run.specs.declared.work.Aim.{Aim}
 use Rattle.upkeep_run.specs.declared.work.Place.{Place as HeldPlace}
@@ -38,7 +38,7 @@ use Rattle.upkeep_run.proofs.Planned.{At, at_place, short_file, whole_piece}
 use Rattle.upkeep_run.proofs.Stepping.{Called, called_goes, ends_at, ends_idle, trouble_none}
 
 -- with this fate, and memory behind its call or not
-abbrev pub luck_by : Bool → Fate → Luck
+abbrev pub luck_by : Bool → Fate → WorkerLuck
 luck_by short fate = record { world = fate; short = short }
 
 module _ (core : Core) (log : Log) (held : HeldWork) (work : Work) (said_row : PlanRow) (ws : WorkStands held work) (i : IsWork log core work) (there : slice_get held.plan.rows held.next ≡ Some said_row) where

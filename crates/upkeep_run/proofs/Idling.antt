@@ -25,7 +25,7 @@ use Rattle.index_world.specs.Core.{Core}
 use Rattle.upkeep_run.specs.Outcomes as said
 use Rattle.upkeep_run.specs.Outcomes.{UpkeepOutcome}
 use Rattle.upkeep_run.specs.Places.{Work, idle}
-use Rattle.upkeep_run.specs.Steps.{Luck, or_short, plan_by, plan_with, rows_in, step_worker, work_in}
+use Rattle.upkeep_run.specs.Steps.{WorkerLuck, or_short, plan_by, plan_with, rows_in, step_worker, work_in}
 use Rattle.upkeep_run.specs.declared.work.Aim.{Aim}
 use Rattle.upkeep_run.specs.declared.work.Aim.TheVariants.{Deleting, Merging}
 use Rattle.upkeep_run.proofs.PlannedRows.{FitIf, least_fit, named}
@@ -59,7 +59,7 @@ says_none aim false (Err trouble) log core h = absurd (never h.1)
     never : ◌≡◌ {A = Result ⊤ Trouble} (Err trouble) (Ok tt) → ⊥
     never e = cc
 
-pub nothing_is : (aim : Aim) (luck : Luck) (log : Log) (core : Core) →
+pub nothing_is : (aim : Aim) (luck : WorkerLuck) (log : Log) (core : Core) →
     ((step_worker aim luck log idle core).outcome ≡ Some said.Nothing) ↔ HadNone aim luck.short (asked_and_looked luck.world core).answer (asked_and_looked luck.world core).core
 nothing_is aim luck log core = (
   had_none aim luck.short (asked_and_looked luck.world core).answer log (asked_and_looked luck.world core).core,

@@ -24,7 +24,7 @@ use Rattle.index_world.specs.Index.{IsAllowed, max_entries}
 use Rattle.index_world.specs.World.{GoesFor, GoesOn}
 use Rattle.upkeep_run.specs.Losing.{CanRaise, CanReplace, LosesUnless, rows_in}
 use Rattle.upkeep_run.specs.Places.{Held, IsUploadedHeld, IsWork, Work, fetching, uploaded}
-use Rattle.upkeep_run.specs.Steps.{Luck, Stepped, drops_none, first_number, or_short, raise_by, replace_by, step_raise, step_replace, step_stage, step_work, step_worker, trouble_outcome, held_of}
+use Rattle.upkeep_run.specs.Steps.{WorkerLuck, Stepped, drops_none, first_number, or_short, raise_by, replace_by, step_raise, step_replace, step_stage, step_work, step_worker, trouble_outcome, held_of}
 use Rattle.index_world.specs.Gate.{raise_call, replace_call}
 use Rattle.upkeep_run.specs.declared.work.Aim.{Aim}
 use Rattle.upkeep_run.specs.declared.work.Aim.TheVariants.{Deleting}
@@ -152,7 +152,7 @@ module _ (log : Log) (held : Held) where
       refused_never after log (Replace held.number held.old held.upto) sound (λ config. ((can.0, (u.made.some, u.made.apart, can.1)), u.made.known)) came
 
   -- of a step with a replacement in hand
-  pub replace_lost : (aim : Aim) (luck : Luck) (core : Core) → IsUploadedHeld log core held → GoesOn (Some held.number) core (step_worker aim luck log (uploaded held) core).core → IsSoundCore (step_worker aim luck log (uploaded held) core).core log →
+  pub replace_lost : (aim : Aim) (luck : WorkerLuck) (core : Core) → IsUploadedHeld log core held → GoesOn (Some held.number) core (step_worker aim luck log (uploaded held) core).core → IsSoundCore (step_worker aim luck log (uploaded held) core).core log →
       LosesUnless Can (step_worker aim luck log (uploaded held) core).outcome (step_worker aim luck log (uploaded held) core).core
   replace_lost aim luck core u goes sound = short luck.short goes sound
     where
@@ -189,7 +189,7 @@ module _ (log : Log) (work : Work) where
   raise_loses (Err (refused refusal)) after known sound came = λ can. refused_never after log (Raise (first_number work.rows) work.upto) sound (λ config. (can, known)) came
 
   -- of a step of a delete worker that drops nothing
-  pub raise_lost : (luck : Luck) (core : Core) → work.unfetched ≡ [] → drops_none work core ≡ true → IsWork log core work → GoesOn None core (step_worker Deleting luck log (fetching work) core).core →
+  pub raise_lost : (luck : WorkerLuck) (core : Core) → work.unfetched ≡ [] → drops_none work core ≡ true → IsWork log core work → GoesOn None core (step_worker Deleting luck log (fetching work) core).core →
       IsSoundCore (step_worker Deleting luck log (fetching work) core).core log → LosesUnless CanThis (step_worker Deleting luck log (fetching work) core).outcome (step_worker Deleting luck log (fetching work) core).core
   raise_lost luck core done none w goes sound =
       subst (λ (st : Stepped). GoesOn None core st.core → IsSoundCore st.core log → LosesUnless CanThis st.outcome st.core) (sym steps) (short luck.short) goes sound

@@ -22,7 +22,7 @@ use Rattle.upkeep_run.specs.Outcomes as outcomes
 use Rattle.upkeep_run.specs.Outcomes.{UpkeepOutcome}
 use Rattle.upkeep_run.specs.Places.{Held, IsStagedHeld, Place, held_file, idle, number_held, staged, uploaded}
 use Rattle.upkeep_run.specs.Standing.{Answers, PlaceStands, PlanHolds, StepsAs}
-use Rattle.upkeep_run.specs.Steps.{Luck, lost_outcome, replace_by, replace_given, stage_outcome, step_worker, stepped, trouble_outcome, upload_by, upload_given}
+use Rattle.upkeep_run.specs.Steps.{WorkerLuck, lost_outcome, replace_by, replace_given, stage_outcome, step_worker, stepped, trouble_outcome, upload_by, upload_given}
 use Rattle.upkeep_run.specs.declared.outcome.UpkeepOutcome.{UpkeepOutcome as Said}
 use Rattle.upkeep_run.specs.declared.outcome.UpkeepOutcome.TheVariants as said
 use Rattle.upkeep_run.specs.declared.work.Aim.{Aim}
@@ -33,10 +33,10 @@ use Rattle.index_world.specs.Config.{reads}
 use Rattle.meta_store.specs.State.{Legal}
 
 -- a step that finds its memory behind its call, and one that does not
-abbrev pub by_world : Fate → Luck
+abbrev pub by_world : Fate → WorkerLuck
 by_world fate = record { world = fate; short = false }
 
-abbrev pub short_of : Fate → Luck
+abbrev pub short_of : Fate → WorkerLuck
 short_of fate = record { world = fate; short = true }
 
 -- memory is wanting before the clock is asked
@@ -112,7 +112,7 @@ module _ {W : Type 0} (Stands : W → Core → Log → Type 0) (Between : Core �
   Steps result place kept = StepsAs Stands Between Owns Adds aim result place core log kept old new
 
   -- a step behind which it is idle
-  pub ends_idle : (place : Place) (kept : HeldPlace) (result : Result Said AllocError) (mid after : Core) (luck : Luck) (outcome : Option UpkeepOutcome) →
+  pub ends_idle : (place : Place) (kept : HeldPlace) (result : Result Said AllocError) (mid after : Core) (luck : WorkerLuck) (outcome : Option UpkeepOutcome) →
       Called Stands Between Owns Adds (number_held place) (ask_of aim place mid) (outcome ≡ None) core log old new mid after →
       step_worker aim luck log place mid ≡ stepped outcome idle after → Answers result outcome → kept ≡ places.Idle → Steps result place kept
   ends_idle place kept result mid after luck outcome called did answer is =
@@ -136,7 +136,7 @@ module _ {W : Type 0} (Stands : W → Core → Log → Type 0) (Between : Core �
       }
 
   -- a step behind which it holds something, of a number that it held or that is new
-  pub ends_at : (place next : Place) (kept : HeldPlace) (result : Result Said AllocError) (mid after : Core) (luck : Luck) (outcome : Option UpkeepOutcome) →
+  pub ends_at : (place next : Place) (kept : HeldPlace) (result : Result Said AllocError) (mid after : Core) (luck : WorkerLuck) (outcome : Option UpkeepOutcome) →
       Called Stands Between Owns Adds (number_held place) (ask_of aim place mid) (outcome ≡ None) core log old new mid after →
       step_worker aim luck log place mid ≡ stepped outcome next after → Answers result outcome → PlaceStands aim log after kept next →
       ((n : ℕ) → has_staged (journal_of core) n ≡ true → number_held next ≡ Some n → number_held place ≡ Some n) → Steps result place kept

@@ -28,7 +28,7 @@ use Rattle.upkeep_run.specs.Judging.{AreSplits}
 use Rattle.upkeep_run.specs.Outcomes.{UpkeepOutcome, Faulted}
 use Rattle.upkeep_run.specs.Outcomes as outcomes
 use Rattle.upkeep_run.specs.Places.{Held, IsStagedHeld, IsPlannedFor, IsUploadedHeld, IsWork, Place, Work, fetching, held_file, idle, marks_of, number_held, staged, uploaded}
-use Rattle.upkeep_run.specs.Steps.{Luck, step_worker}
+use Rattle.upkeep_run.specs.Steps.{WorkerLuck, step_worker}
 use Rattle.upkeep_run.specs.declared.work.Aim.{Aim}
 use Rattle.upkeep_run.specs.declared.outcome.UpkeepOutcome.{UpkeepOutcome as Said}
 use Rattle.upkeep_run.specs.declared.outcome.UpkeepOutcome.TheVariants as said
@@ -119,7 +119,7 @@ pub record StepsAs {W : Type 0} (Stands : W → Core → Log → Type 0) (Betwee
   pub mid : Core
   pub passed : Between core mid
   pub owned : (number : ℕ) → Owns old number → IsUnusedIn core number → IsUnusedIn mid number
-  pub luck : Luck
+  pub luck : WorkerLuck
   pub outcome : Option UpkeepOutcome
   pub after : Place
   pub behind : Core

@@ -30,7 +30,7 @@ choice_of Merging = choices.Merge
 choice_of Deleting = choices.Deletes
 
 -- the fate of one step: its call of the world, and whether it finds no memory behind it
-pub record Luck : Type 0 where
+pub record WorkerLuck : Type 0 where
   pub world : Fate
   pub short : Bool
 
@@ -93,7 +93,7 @@ plan_by aim (Err trouble) log core = stepped (trouble_outcome trouble) idle core
 abbrev pub plan_given : Aim → Log → Gives Trouble ⊤ → Stepped
 plan_given aim log given = plan_by aim given.answer log given.core
 
-abbrev pub step_plan : Aim → Luck → Log → Core → Stepped
+abbrev pub step_plan : Aim → WorkerLuck → Log → Core → Stepped
 step_plan aim luck log core = plan_given aim log (asked_and_looked luck.world core)
 
 -- ---- the whole file of one row is fetched
@@ -108,7 +108,7 @@ fetch_by (Err trouble) work number more core = stepped (trouble_outcome trouble)
 abbrev pub fetch_given : Work → (number : ℕ) → (more : List Row) → Gives Trouble ⊤ → Stepped
 fetch_given work number more given = fetch_by given.answer work number more given.core
 
-abbrev pub step_fetch : Luck → Work → (number : ℕ) → (more : List Row) → Core → Stepped
+abbrev pub step_fetch : WorkerLuck → Work → (number : ℕ) → (more : List Row) → Core → Stepped
 step_fetch luck work number more core = fetch_given work number more (fetched (grace_in work) luck.world core)
 
 -- ---- all are fetched: a replacement is staged, or the row is raised
@@ -136,7 +136,7 @@ abbrev pub stage_given : (held : ℕ → Held) → Gives Unmade ⊤ → Stepped
 stage_given held given = stage_by given.answer held given.core
 
 -- the facts say nothing of the number
-abbrev pub step_stage : Luck → (held : ℕ → Held) → Core → Stepped
+abbrev pub step_stage : WorkerLuck → (held : ℕ → Held) → Core → Stepped
 step_stage luck held core = stage_given held (stage_call [] (held_facts (held 0)) luck.world core)
 
 abbrev pub raise_by : Result ⊤ Unmade → (number : ℕ) → Core → Stepped
@@ -146,7 +146,7 @@ raise_by (Err unmade) number core = stepped (lost_outcome number unmade) idle co
 abbrev pub raise_given : (number : ℕ) → Gives Unmade ⊤ → Stepped
 raise_given number given = raise_by given.answer number given.core
 
-abbrev pub step_raise : Luck → (number upto : ℕ) → Core → Stepped
+abbrev pub step_raise : WorkerLuck → (number upto : ℕ) → Core → Stepped
 step_raise luck number upto core = raise_given number (raise_call number upto luck.world core)
 
 -- the number of the first row; plans without rows are not worked on
@@ -158,11 +158,11 @@ first_number (row ∷ rows) = row.number
 abbrev pub drops_none : Work → Core → Bool
 drops_none work core = length (left_of work core) == length (documents_of work)
 
-abbrev pub step_close : Aim → Luck → Work → Core → Stepped
+abbrev pub step_close : Aim → WorkerLuck → Work → Core → Stepped
 step_close Merging luck work core = step_stage luck (held_of Merging work core) core
 step_close Deleting luck work core = if drops_none work core then step_raise luck (first_number work.rows) work.upto core else step_stage luck (held_of Deleting work core) core
 
-abbrev pub step_work : Aim → Luck → Work → List Row → Core → Stepped
+abbrev pub step_work : Aim → WorkerLuck → Work → List Row → Core → Stepped
 step_work aim luck work [] core = step_close aim luck work core
 step_work aim luck work (row ∷ more) core = step_fetch luck work row.number more core
 
@@ -175,7 +175,7 @@ upload_by (Err trouble) held core = stepped (trouble_outcome trouble) idle core
 abbrev pub upload_given : Held → Gives Trouble ⊤ → Stepped
 upload_given held given = upload_by given.answer held given.core
 
-abbrev pub step_upload : Luck → Held → Core → Stepped
+abbrev pub step_upload : WorkerLuck → Held → Core → Stepped
 step_upload luck held core = upload_given held (upload_made luck.world held.number (held_file held) core)
 
 -- ---- uploaded: the planned rows are replaced
@@ -187,12 +187,12 @@ replace_by (Err unmade) number core = stepped (lost_outcome number unmade) idle 
 abbrev pub replace_given : (number : ℕ) → Gives Unmade ⊤ → Stepped
 replace_given number given = replace_by given.answer number given.core
 
-abbrev pub step_replace : Luck → Held → Core → Stepped
+abbrev pub step_replace : WorkerLuck → Held → Core → Stepped
 step_replace luck held core = replace_given held.number (replace_call held.number held.old held.upto luck.world core)
 
 -- ---- a step
 
-abbrev pub step_place : Aim → Place → Luck → Log → Core → Stepped
+abbrev pub step_place : Aim → Place → WorkerLuck → Log → Core → Stepped
 step_place aim idle luck log core = step_plan aim luck log core
 step_place aim (fetching work) luck log core = step_work aim luck work work.unfetched core
 step_place aim (staged held) luck log core = step_upload luck held core
@@ -203,9 +203,9 @@ abbrev pub or_short : Bool → Stepped → Stepped
 or_short true step = stepped None idle step.core
 or_short false step = step
 
-abbrev pub step_worker : Aim → Luck → Log → Place → Core → Stepped
+abbrev pub step_worker : Aim → WorkerLuck → Log → Place → Core → Stepped
 step_worker aim luck log place core = or_short luck.short (step_place aim place luck log core)
 
 -- nothing lands, nothing fails, and memory is there
-abbrev pub calm_luck : Luck
+abbrev pub calm_luck : WorkerLuck
 calm_luck = record { world = calm_fate; short = false }

@@ -19,14 +19,14 @@ ghost use Rattle.upkeep_run.specs.Losing.{CanRaise, CanReplace, LosesUnless};
 ghost use Rattle.upkeep_run.specs.Outcomes.{Nothing};
 ghost use Rattle.upkeep_run.specs.Places.{Held, IsUploadedHeld, IsWork, Place, Work, fetching, idle, number_held, uploaded};
 ghost use Rattle.upkeep_run.specs.Standing.{PlaceStands};
-ghost use Rattle.upkeep_run.specs.Steps.{Luck, drops_none, first_number, rows_in, step_worker};
+ghost use Rattle.upkeep_run.specs.Steps.{WorkerLuck, drops_none, first_number, rows_in, step_worker};
 ghost use Rattle.upkeep_run.specs.declared.work.Aim.{Aim};
 ghost use Rattle.upkeep_run.specs.declared.work.Aim.TheVariants.{Deleting, Merging};
 ghost use Rattle.upkeep_run.specs.declared.work.Place.{Place as HeldPlace};
 
 /// An idle worker has nothing to do exactly where its plan was made and has no row, and memory is there.
 pub fn nothing_is_exact()
-    ensures step { (aim : Aim) (luck : Luck) (log : Log) (core : Core) →
+    ensures step { (aim : Aim) (luck : WorkerLuck) (log : Log) (core : Core) →
         ((step_worker aim luck log idle core).outcome ≡ Some Nothing)
         ↔ ((luck.short ≡ false) × ((asked_and_looked luck.world core).answer ≡ Ok tt) × (rows_in aim (asked_and_looked luck.world core).core ≡ [])) }
     // A plan for a merge has no row exactly where the policy chooses none. (The numbers of each accepted configuration fit: meta_store `ranges_fit`.)
@@ -46,9 +46,9 @@ pub fn others_leave_it()
 /// Planned rows are lost exactly where one of them isn't published or the own row isn't staged for a replacement: a step that replaces
 /// is Lost where the history that it came to has no such rows, and Replaced where the one before its entry has. So is one that raises.
 pub fn lost_is_exact()
-    ensures replaces { (aim : Aim) (luck : Luck) (log : Log) (core : Core) (held : Held) → let step = step_worker aim luck log (uploaded held) core in
+    ensures replaces { (aim : Aim) (luck : WorkerLuck) (log : Log) (core : Core) (held : Held) → let step = step_worker aim luck log (uploaded held) core in
         IsUploadedHeld log core held → GoesOn (Some held.number) core step.core → IsSoundCore step.core log → LosesUnless (λ rows. CanReplace rows held.number held.old) step.outcome step.core }
-    ensures raises { (luck : Luck) (log : Log) (core : Core) (work : Work) → let step = step_worker Deleting luck log (fetching work) core in
+    ensures raises { (luck : WorkerLuck) (log : Log) (core : Core) (work : Work) → let step = step_worker Deleting luck log (fetching work) core in
         work.unfetched ≡ [] → drops_none work core ≡ true → IsWork log core work → GoesOn None core step.core → IsSoundCore step.core log →
         LosesUnless (λ rows. CanRaise rows (first_number work.rows)) step.outcome step.core }
 {}

@@ -3,7 +3,7 @@
 ghost use Rattle.std.specs.Prelude.{◌<◌, ◌^◌};
 ghost use Rattle.meta_journal.specs.Spelling.{CanSpell};
 
-use meta_journal::{Act, Entry, Journal, JournalError, Place, meta_key};
+use meta_journal::{Act, Entry, Journal, JournalError, JournalPlace, meta_key};
 use object_store::{Landing, MemoryStore, ObjectStore};
 use std::alloc::{AllocError, Global};
 
@@ -45,7 +45,7 @@ fn add<S: ObjectStore>(
     journal: &mut Journal,
 ) -> Option<JournalError> {
     match journal.place() {
-        Place::Sure => journal.append(alloc, store, &fence(7)).err(),
+        JournalPlace::Sure => journal.append(alloc, store, &fence(7)).err(),
         _ => None,
     }
 }
@@ -55,7 +55,7 @@ fn is_settled<S: ObjectStore>(alloc: Global, store: &mut S) -> Result<bool, Jour
     let mut journal = opened(alloc, store)?;
     let has_failed = add(alloc, store, &mut journal).is_some();
     let is_given = journal.settle(alloc, store, 9)?.is_some();
-    if !matches!(journal.place(), Place::Given) {
+    if !matches!(journal.place(), JournalPlace::Given) {
         return Ok(false);
     }
     journal.step_over();

@@ -4,7 +4,7 @@ use Rattle.split_bundle.specs.Keys.{keys_of}
 use Rattle.split_bundle.specs.Lists.{has_key, posting_list}
 use Rattle.split_bundle.proofs.Infos.{info_found}
 use Rattle.term_postings.specs.Reading.{walk}
-use Rattle.doc_sets.specs.Faults.{HasCause, fault_of}
+use Rattle.doc_sets.specs.Faults.{LacksPart, fault_of}
 use Rattle.doc_sets.specs.Needed.{IsListFor}
 use Rattle.doc_sets.specs.Reads.{numbers_at, numbers_in, of_view, then_read, PutsRead}
 use Rattle.doc_sets.specs.Sets.{IsSetOf}
@@ -23,7 +23,7 @@ pub returns-clause-only : goal.returns-clause-only
 returns-clause-only c = λ s documents p key test is found flag set.
     let list = posting_list s documents key in
     let below = subst (λ n. AllByRecursion (λ p. p.document < n) list) (sym set.size) (posting_list_below s key documents) in
-    filled_set (HasCause (IsListFor c.args.part.now s documents p key) c.args.part.now.pieces) c.fill.result s key documents test c.args.bits.now c.fill.new.bits c.fill.ensures.size set
+    filled_set (LacksPart (IsListFor c.args.part.now s documents p key) c.args.part.now.pieces) c.fill.result s key documents test c.args.bits.now c.fill.new.bits c.fill.ensures.size set
     (c.fill.ensures.only list (c.in_ok-cursor.ensures.only s documents p key is.part found flag) (info_found s documents p key c.args.info.now is.part.is_split found).docs below)
 
 pub returns-in_err-cursor-clause-exact : goal.returns-in_err-cursor-clause-exact

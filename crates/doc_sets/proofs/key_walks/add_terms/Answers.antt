@@ -4,7 +4,7 @@ use Rattle.term_dict.specs.declared.term.Term.{Term}
 use Rattle.split_bundle.specs.Keys.{keys_of}
 use Rattle.split_bundle.specs.Lists.{has_key}
 use Rattle.doc_sets.specs.Bits.{has}
-use Rattle.doc_sets.specs.Faults.{HasCause}
+use Rattle.doc_sets.specs.Faults.{LacksPart}
 use Rattle.doc_sets.specs.Reads.{in_front_of, numbers_if}
 use Rattle.doc_sets.specs.Sets.{IsSetOf}
 use Rattle.doc_sets.specs.Walks.{AsksIf, AsksTerms, IsListed, has_some_of, takes}
@@ -26,8 +26,8 @@ returns-in_err-add_if_wanted-in-Ok-Some-clause-only c = λ s documents p lent te
     let known = listed_as s documents p c.args.positions g.first c.in-Ok-Some.key.now c.in-Ok-Some.info g.key_is g.info_is (first_listed (IsListed s documents p c.args.positions) lent c.loop-taken.taken g.first g.rest g.lent_is listed) in
     let e = c.in_err-add_if_wanted-in-Ok-Some.field-0.0 in
     let cause = c.in_err-add_if_wanted-in-Ok-Some.ensures.only s documents p i.0 is known.0 known.1 i.1 in
-    handed_on (λ u. IsSetOf (λ d. test d || has_some_of w lent (keys_of s d)) documents c.add_if_wanted.new.bits) (HasCause (AsksTerms v s documents p w lent) v.pieces) c.from_residual.result e c.from_residual.ensures.1
-    (term_lacks v s documents p w lent c.loop-taken.taken g.first g.rest e g.lent_is (subst (λ k. HasCause (AsksIf v s documents p w k) v.pieces e) g.key_is cause))
+    handed_on (λ u. IsSetOf (λ d. test d || has_some_of w lent (keys_of s d)) documents c.add_if_wanted.new.bits) (LacksPart (AsksTerms v s documents p w lent) v.pieces) c.from_residual.result e c.from_residual.ensures.1
+    (term_lacks v s documents p w lent c.loop-taken.taken g.first g.rest e g.lent_is (subst (λ k. LacksPart (AsksIf v s documents p w k) v.pieces e) g.key_is cause))
 
 pub returns-in-Ok-None-clause-only : goal.returns-in-Ok-None-clause-only
 returns-in-Ok-None-clause-only c = λ s documents p lent test is lends few listed set.

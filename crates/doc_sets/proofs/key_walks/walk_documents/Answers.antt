@@ -8,7 +8,7 @@ use Rattle.term_dict.specs.declared.term.Term.{Term}
 use Rattle.split_bundle.specs.Keys.{keys_of}
 use Rattle.split_bundle.specs.Lists.{has_key, terms_of}
 use Rattle.doc_sets.specs.Asked.{is_listed, such}
-use Rattle.doc_sets.specs.Faults.{HasCause}
+use Rattle.doc_sets.specs.Faults.{LacksPart}
 use Rattle.doc_sets.specs.Reads.{in_front_of, numbers_if, ReadsBlocks, ReadsWalk}
 use Rattle.doc_sets.specs.Sets.{IsSetOf}
 use Rattle.doc_sets.specs.Walks.{AsksWalk, begun_in, has_some_of, is_walked}
@@ -30,7 +30,7 @@ returns-in_err-add_block-clause-only c = λ s documents p is kept.
     let start = c.blocks_with-blocks.result.start in
     let end = c.blocks_with-blocks.result.end in
     let blocks = subst (λ (ix : List BlockStart). AreBlocks ix prefix (λ first. is_below first prefix || starts_with nat_eq first prefix) start end) c.requires c.blocks_with-blocks.ensures.exact in
-    handed_on (IsSetOf (λ d. such (is_walked prefix w) (keys_of s d)) documents) (HasCause (AsksWalk v s documents p prefix w) v.pieces) c.from_residual-in_err-add_block.result e c.from_residual-in_err-add_block.ensures.1
+    handed_on (IsSetOf (λ d. such (is_walked prefix w) (keys_of s d)) documents) (LacksPart (AsksWalk v s documents p prefix w) v.pieces) c.from_residual-in_err-add_block.result e c.from_residual-in_err-add_block.ensures.1
     (walk_lacks v s documents p w prefix start end c.loop-number.number e blocks c.loop-number.auto.number c.loop-number-test.true (c.in_err-add_block.ensures.only s documents p i.0 is kept i.1))
 
 pub loop-number-preserved : goal.loop-number-preserved

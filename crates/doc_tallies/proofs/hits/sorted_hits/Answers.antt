@@ -2,7 +2,7 @@ use Rattle.std.proofs.Common.{◌≡◌, ◌<◌, ℕ, List, Option, None, lengt
 use Rattle.std.proofs.lemmas.List.Elements.{recursion_from_All}
 use Rattle.split_bundle.specs.declared.placed.Placed.{Placed}
 use Rattle.doc_tallies.specs.declared.hit_order.HitOrder.{HitOrder}
-use Rattle.doc_tallies.specs.Causes.{AsksDocuments, HasCause}
+use Rattle.doc_tallies.specs.Causes.{AsksDocuments, LacksPart}
 use Rattle.doc_tallies.specs.Near.{shown}
 use Rattle.doc_tallies.specs.Orders.{firsts}
 use Rattle.doc_tallies.specs.Picked.{AllBelow, picked}
@@ -24,8 +24,8 @@ returns-in-None-clause-only c = λ documents p part sorted.
     let none : c.args.order ≡ None = rw c.in-None.is at sorted in
     let all = ap (λ (o : Option HitOrder). shown o wanted documents ns) none ∙ shown_all wanted documents ns c.requires.some in
     result_wider (λ (hits : List Placed). hits ≡ firsts wanted None (picked ns documents)) (λ (hits : List Placed). hits ≡ firsts wanted c.args.order (picked ns documents))
-    (HasCause (AsksDocuments p documents ns) pieces) (HasCause (AsksDocuments p documents (shown c.args.order wanted documents ns)) pieces) c.hits_by_address.result
-    (λ hits e. e ∙ ap (λ (o : Option HitOrder). firsts wanted o (picked ns documents)) (sym none)) (λ e h. subst (λ (ms : List ℕ). HasCause (AsksDocuments p documents ms) pieces e) (sym all) h) (c.hits_by_address.ensures.only documents p part)
+    (LacksPart (AsksDocuments p documents ns) pieces) (LacksPart (AsksDocuments p documents (shown c.args.order wanted documents ns)) pieces) c.hits_by_address.result
+    (λ hits e. e ∙ ap (λ (o : Option HitOrder). firsts wanted o (picked ns documents)) (sym none)) (λ e h. subst (λ (ms : List ℕ). LacksPart (AsksDocuments p documents ms) pieces e) (sym all) h) (c.hits_by_address.ensures.only documents p part)
 
 pub returns-in-Ok-clause-only : goal.returns-in-Ok-clause-only
 returns-in-Ok-clause-only c = λ documents p part sorted.
@@ -38,6 +38,6 @@ returns-in-Ok-clause-only c = λ documents p part sorted.
     let told = c.in-Ok.ensures.only c.args.schema.now documents order part.is_split.are_documents (rw c.in-Some.is at sorted) below in
     let same = c.as_slice.ensures.value ∙ told in
     result_wider (λ (hits : List Placed). hits ≡ firsts wanted order (picked near documents)) (λ (hits : List Placed). hits ≡ firsts wanted order (picked ns documents))
-    (HasCause (AsksDocuments p documents near) pieces) (HasCause (AsksDocuments p documents (shown order wanted documents ns)) pieces) c.hits_among.result
+    (LacksPart (AsksDocuments p documents near) pieces) (LacksPart (AsksDocuments p documents (shown order wanted documents ns)) pieces) c.hits_among.result
     (λ hits e. e ∙ (ap (λ (ms : List ℕ). firsts wanted order (picked ms documents)) same ∙ shown_firsts order wanted documents ns (recursion_from_All (λ (n : ℕ). n < length documents) ns below)))
-    (λ e h. subst (λ (ms : List ℕ). HasCause (AsksDocuments p documents ms) pieces e) same h) (c.hits_among.ensures.only documents p part)
+    (λ e h. subst (λ (ms : List ℕ). LacksPart (AsksDocuments p documents ms) pieces e) same h) (c.hits_among.ensures.only documents p part)

@@ -3,7 +3,7 @@ use Rattle.query_ast.specs.Meaning.{is_text, some_has_prefix, values_in}
 use Rattle.query_ast.specs.FieldTokens.{prefix_text}
 use Rattle.split_bundle.specs.Keys.{field_key}
 use Rattle.doc_sets.specs.Asking.{LacksLookups}
-use Rattle.doc_sets.specs.Faults.{HasCause}
+use Rattle.doc_sets.specs.Faults.{LacksPart}
 use Rattle.doc_sets.specs.Sets.{IsSetOf}
 use Rattle.doc_sets.specs.Walks.{AsksWalk}
 use Rattle.doc_sets.specs.declared.dictionary_lookup.Lookup.TheVariants.{Walk}
@@ -23,7 +23,7 @@ returns-in-Some-clause-only c = λ documents p is can.
     let known = field_fact s n f (λ f. (f.indexed ≡ true) × (is_text f.kind ≡ true)) got can in
     let key = field_key n (prefix_text f c.args.text.now) in
     at_field v s documents p n f c.prefix_documents.result (λ g d. some_has_prefix g (prefix_text g c.args.text.now) (values_in d n)) (λ g. Walk (field_key n (prefix_text g c.args.text.now)) Each ∷ []) got
-    (wider_result (IsSetOf (λ d. some_has_prefix f (prefix_text f c.args.text.now) (values_in d n)) documents) (HasCause (AsksWalk v s documents p key Each) v.pieces) (LacksLookups v s documents p (Walk key Each ∷ [])) c.prefix_documents.result
+    (wider_result (IsSetOf (λ d. some_has_prefix f (prefix_text f c.args.text.now) (values_in d n)) documents) (LacksPart (AsksWalk v s documents p key Each) v.pieces) (LacksLookups v s documents p (Walk key Each ∷ [])) c.prefix_documents.result
     (walk_lacks_looked v s documents p key Each) (c.prefix_documents.ensures.only s documents p is got known.0 known.1))
 
 pub returns-in_ok-no_documents-in-None-clause-only : goal.returns-in_ok-no_documents-in-None-clause-only

@@ -2,7 +2,7 @@ use Rattle.leaf_search.proofs.ReadQueries.{evaluated_read, if_evaluated, if_read
 use Rattle.std.proofs.Common.{◌≡◌, ◌∙◌, [], Some, None, IfOk, length, ap, sym, subst}
 use Rattle.agg_nested.specs.Buckets.{IsNestedPartial, documents_counted}
 use Rattle.split_bundle.specs.Lists.{posting_list}
-use Rattle.doc_sets.specs.Faults.{HasCause, IsMemory}
+use Rattle.doc_sets.specs.Faults.{LacksPart, IsMemory}
 use Rattle.doc_sets.specs.Needed.{IsBlockFor}
 use Rattle.doc_sets.proofs.Searched.{searched}
 use Rattle.leaf_search.specs.Answers.{AsksLeaf, IsAnswerOf}
@@ -22,7 +22,7 @@ returns-in-Some-clause-only c = λ documents p part ask.
     let some = c.in-Some.is in
     let is : counted_key s r ≡ Some c.in-Some.key = cc in
     let it : counted_key s r ≡ Some key = is ∙ ap Some (sym c.as_slice.ensures) in
-    by_parts (λ a. (a.count ≡ length (posting_list s documents key)) × (a.hits ≡ []) × (documents_counted a.partial ≡ a.count)) (IsAnswerOf s r documents) (HasCause (IsBlockFor v s documents p key) v.pieces) (HasCause (AsksLeaf v s documents p r) v.pieces)
+    by_parts (λ a. (a.count ≡ length (posting_list s documents key)) × (a.hits ≡ []) × (documents_counted a.partial ≡ a.count)) (IsAnswerOf s r documents) (LacksPart (IsBlockFor v s documents p key) v.pieces) (LacksPart (AsksLeaf v s documents p r) v.pieces)
     c.counted.result
     (λ a e h. is_counted s r documents key a part.is_split.are_documents c.requires.fields ask (counts s r key it) h.0 h.1 h.2 (subst (λ x. IfOk x (λ y. IsNestedPartial r.aggs y.partial)) e c.counted.ensures.partial))
     (λ e cause. counted_cause v s documents p r key e it cause)
@@ -38,7 +38,7 @@ returns-in-Some-clause-there c = λ documents p part all ask.
     let some = c.in-Some.is in
     let is : counted_key s r ≡ Some c.in-Some.key = cc in
     let it : counted_key s r ≡ Some key = is ∙ ap Some (sym c.as_slice.ensures) in
-    by_parts (λ a. (a.count ≡ length (posting_list s documents key)) × (a.hits ≡ []) × (documents_counted a.partial ≡ a.count)) (IsAnswerOf s r documents) (HasCause (IsBlockFor v s documents p key) v.pieces) IsMemory
+    by_parts (λ a. (a.count ≡ length (posting_list s documents key)) × (a.hits ≡ []) × (documents_counted a.partial ≡ a.count)) (IsAnswerOf s r documents) (LacksPart (IsBlockFor v s documents p key) v.pieces) IsMemory
     c.counted.result
     (λ a e h. is_counted s r documents key a part.is_split.are_documents c.requires.fields ask (counts s r key it) h.0 h.1 h.2 (subst (λ x. IfOk x (λ y. IsNestedPartial r.aggs y.partial)) e c.counted.ensures.partial))
     (λ e cause. block_memory v s documents p r key e part all cause)

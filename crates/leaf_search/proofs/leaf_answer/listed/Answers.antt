@@ -2,7 +2,7 @@ use Rattle.std.proofs.Common.{◌∙◌, length, inl, inr, List, ℕ, Bool, ap, 
 use Rattle.doc_value.specs.declared.doc.DocField.{DocField}
 use Rattle.query_ast.specs.Meaning.{meaning}
 use Rattle.query_ast.specs.Sought.{view}
-use Rattle.doc_sets.specs.Faults.{HasCause, IsMemory}
+use Rattle.doc_sets.specs.Faults.{LacksPart, IsMemory}
 use Rattle.doc_sets.proofs.Causes.{cause_wider}
 use Rattle.doc_tallies.specs.AggColumns.{AsksFields}
 use Rattle.doc_tallies.specs.Causes.{AsksHits}
@@ -20,7 +20,7 @@ returns-in_err-numbers-clause-only c = λ documents p part ask set.
     let e = c.in_err-numbers.field-0.0 in
     let test : List DocField → Bool = λ d. meaning s d (view r.query) in
     let matched = c.in_ok-matched.ensures.only test documents set in
-    handed (IsAnswerOf s r documents) (HasCause (AsksWith v s documents p r (lookups_of v.footer s (view r.query))) v.pieces) c.from_residual-in_err-numbers.result e c.from_residual-in_err-numbers.ensures.1
+    handed (IsAnswerOf s r documents) (LacksPart (AsksWith v s documents p r (lookups_of v.footer s (view r.query))) v.pieces) c.from_residual-in_err-numbers.result e c.from_residual-in_err-numbers.ensures.1
     (cause_wider (AsksTimes v p s r.times) (AsksWith v s documents p r (lookups_of v.footer s (view r.query))) v.pieces e (λ at len asked. inr (inr (inl asked))) (c.in_err-numbers.ensures.only documents p test part matched))
 
 pub returns-in_err-numbers-clause-there : goal.returns-in_err-numbers-clause-there

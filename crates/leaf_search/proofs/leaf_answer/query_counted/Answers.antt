@@ -2,7 +2,7 @@ use Rattle.leaf_search.specs.Counts.{count_lookups}
 use Rattle.doc_sets.proofs.ReadLookups.{met}
 use Rattle.query_ast.specs.Sought.{view}
 use Rattle.split_bundle.specs.Files.{file_bytes}
-use Rattle.doc_sets.specs.Faults.{HasCause, IsMemory}
+use Rattle.doc_sets.specs.Faults.{LacksPart, IsMemory}
 use Rattle.doc_sets.proofs.Causes.{cause_wider}
 use Rattle.doc_sets.proofs.Searched.{searched}
 use Rattle.doc_sets.proofs.WithinFile.{lookups_within, only_memory}
@@ -19,7 +19,7 @@ returns-in_err-count-clause-only c = λ documents p part ask.
     let r = c.args.request.now in
     let v = c.args.view.now in
     let e = c.in_err-count.field-0.0 in
-    handed (IsAnswerOf s r documents) (HasCause (AsksWith v s documents p r (lookups_of v.footer s (view r.query))) v.pieces) c.from_residual.result e c.from_residual.ensures.1
+    handed (IsAnswerOf s r documents) (LacksPart (AsksWith v s documents p r (lookups_of v.footer s (view r.query))) v.pieces) c.from_residual.result e c.from_residual.ensures.1
     (cause_wider (AsksLookups v s documents p (lookups_of v.footer s (view r.query))) (AsksWith v s documents p r (lookups_of v.footer s (view r.query))) v.pieces e (of_lookups v s documents p r (lookups_of v.footer s (view r.query))) (c.in_err-count.ensures.only documents p (searched v s documents p part) ask.query))
 
 pub returns-in_err-count-clause-there : goal.returns-in_err-count-clause-there

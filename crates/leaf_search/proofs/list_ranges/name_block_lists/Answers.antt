@@ -1,6 +1,6 @@
 use Rattle.std.proofs.Common.{arith}
 use Rattle.split_bundle.specs.Lists.{terms_of}
-use Rattle.doc_sets.specs.Faults.{HasCause, IsMemory}
+use Rattle.doc_sets.specs.Faults.{LacksPart, IsMemory}
 use Rattle.doc_sets.specs.Walks.{AsksTerms, IsBlock, begun_in}
 use Rattle.doc_sets.proofs.TermWalks.{few_begun}
 use Rattle.leaf_search.specs.FileRanges.{AddsParts}
@@ -15,7 +15,7 @@ returns-in-Ok-clause-only c = λ s documents p is.
     let terms = terms_of s documents p.keys in
     let n = c.args.number in
     let Good = AddsParts (AsksTerms v s documents p c.args.wanted (begun_in prefix terms n)) c.args.ranges.now c.name_terms.new.ranges in
-    good_alike (λ u. Good) (λ u. Good) IsMemory (HasCause (IsBlock s documents p n) v.pieces) c.name_terms.result (λ x h. h) (λ e h. memory_is (IsBlock s documents p n) v.pieces e h)
+    good_alike (λ u. Good) (λ u. Good) IsMemory (LacksPart (IsBlock s documents p n) v.pieces) c.name_terms.result (λ x h. h) (λ e h. memory_is (IsBlock s documents p n) v.pieces e h)
     (c.name_terms.ensures.only s documents p (begun_in prefix terms n) is (c.in-Ok.ensures.only _ (c.in_ok-block.ensures.only s documents p is.part)) (few_begun prefix terms n) (begun_found v s documents p is.part prefix n))
 
 pub returns-in-Ok-clause-read : goal.returns-in-Ok-clause-read

@@ -2,7 +2,7 @@ use Rattle.std.proofs.lemmas.List.{drop_more}
 use Rattle.leaf_search.specs.Needs.{AreFound}
 use Rattle.std.proofs.Common.{drop, subst, sym, ap, ◌∙◌, ◌∷◌, ◌+◌}
 use Rattle.doc_sets.specs.Asking.{AsksBlocks, AsksLists}
-use Rattle.doc_sets.specs.Faults.{HasCause}
+use Rattle.doc_sets.specs.Faults.{LacksPart}
 use Rattle.doc_sets.proofs.Causes.{handed_on}
 use Rattle.doc_sets.proofs.Steps.{none_behind}
 use Rattle.leaf_search.specs.FileRanges.{AddsParts}
@@ -27,7 +27,7 @@ returns-in_err-name_lookup_lists-clause-only c = λ documents p is.
     let s = c.args.schema.now in
     let ls = c.args.lookups.now in
     let e = c.in_err-name_lookup_lists.field-0.0 in
-    handed_on (λ u. AddsParts (AsksLists v s documents p ls) c.args.ranges.now c.name_lookup_lists.new.ranges) (HasCause (AsksBlocks v s documents p ls) v.pieces) c.from_residual.result e c.from_residual.ensures.1
+    handed_on (λ u. AddsParts (AsksLists v s documents p ls) c.args.ranges.now c.name_lookup_lists.new.ranges) (LacksPart (AsksBlocks v s documents p ls) v.pieces) c.from_residual.result e c.from_residual.ensures.1
     (lookup_lacks v s documents p ls c.loop-lookup.lookup-index c.lookup-item.result e c.loop-lookup-test.true c.lookup-item.is (c.in_err-name_lookup_lists.ensures.only documents p is))
 
 pub returns-clause-only : goal.returns-clause-only

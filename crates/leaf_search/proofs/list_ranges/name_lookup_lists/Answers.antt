@@ -1,6 +1,6 @@
 use Rattle.std.proofs.Common.{◌≡◌, ◌∙◌, IfOk, MatchResult, ap, sym, subst}
 use Rattle.doc_sets.specs.Asking.{AsksBlockOf, AsksListOf}
-use Rattle.doc_sets.specs.Faults.{HasCause}
+use Rattle.doc_sets.specs.Faults.{LacksPart}
 use Rattle.doc_sets.specs.declared.dictionary_lookup.Lookup.{Lookup}
 use Rattle.doc_sets.specs.declared.dictionary_lookup.Lookup.TheVariants.{Values, Walk}
 use Rattle.leaf_search.specs.FileRanges.{AddsParts}
@@ -12,7 +12,7 @@ returns-in-Walk-clause-only c = λ documents p is.
     let v = c.args.part.now in
     let s = c.args.schema.now in
     let same : c.args.lookup.now ≡ Walk c.as_slice-in-Walk.result.now c.in-Walk.wanted = c.in-Walk.is ∙ ap (λ k. Walk k c.in-Walk.wanted) (sym c.as_slice-in-Walk.ensures) in
-    subst (λ (l : Lookup). MatchResult c.name_walk_lists.result (λ u. AddsParts (AsksListOf v s documents p l) c.args.ranges.now c.name_walk_lists.new.ranges) (HasCause (AsksBlockOf v s documents p l) v.pieces)) (sym same)
+    subst (λ (l : Lookup). MatchResult c.name_walk_lists.result (λ u. AddsParts (AsksListOf v s documents p l) c.args.ranges.now c.name_walk_lists.new.ranges) (LacksPart (AsksBlockOf v s documents p l) v.pieces)) (sym same)
     (c.name_walk_lists.ensures.only s documents p is)
 
 pub returns-in-Walk-clause-read : goal.returns-in-Walk-clause-read

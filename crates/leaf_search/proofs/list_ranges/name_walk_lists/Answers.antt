@@ -4,7 +4,7 @@ use Rattle.term_dict.specs.Bounds.{AreBlocks}
 use Rattle.term_dict.specs.Keys.{is_below}
 use Rattle.term_dict.specs.declared.index.BlockStart.{BlockStart}
 use Rattle.split_bundle.specs.declared.footer.Footer.{Footer}
-use Rattle.doc_sets.specs.Faults.{HasCause}
+use Rattle.doc_sets.specs.Faults.{LacksPart}
 use Rattle.doc_sets.specs.Walks.{AsksWalkBlock, AsksWalkList}
 use Rattle.doc_sets.specs.Reads.{ReadsBlocks}
 use Rattle.doc_sets.proofs.ReadLists.{front_none}
@@ -42,7 +42,7 @@ returns-in_err-name_block_lists-clause-only c = λ s documents p is.
     let start = c.blocks_with-blocks.result.start in
     let end = c.blocks_with-blocks.result.end in
     let blocks = subst (λ (ix : List BlockStart). AreBlocks ix prefix (λ first. is_below first prefix || starts_with nat_eq first prefix) start end) (c.index.ensures ∙ ap (λ (g : Footer). g.index) c.footer.ensures) c.blocks_with-blocks.ensures.exact in
-    handed_on (λ u. AddsParts (AsksWalkList v s documents p prefix c.args.wanted) c.args.ranges.now c.name_block_lists.new.ranges) (HasCause (AsksWalkBlock v s documents p prefix) v.pieces) c.from_residual.result e c.from_residual.ensures.1
+    handed_on (λ u. AddsParts (AsksWalkList v s documents p prefix c.args.wanted) c.args.ranges.now c.name_block_lists.new.ranges) (LacksPart (AsksWalkBlock v s documents p prefix) v.pieces) c.from_residual.result e c.from_residual.ensures.1
     (walk_lacks v s documents p prefix start end c.loop-number.number e blocks c.loop-number.auto.number c.loop-number-test.true (c.in_err-name_block_lists.ensures.only s documents p is))
 
 pub returns-clause-only : goal.returns-clause-only

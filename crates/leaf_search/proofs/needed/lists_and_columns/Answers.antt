@@ -1,6 +1,6 @@
 use Rattle.std.proofs.Common.{◌≡◌, ◌∙◌, ◌⊎◌, List, [], subst, ap}
 use Rattle.doc_sets.specs.Asking.{AsksBlocks, AsksLists}
-use Rattle.doc_sets.specs.Faults.{HasCause}
+use Rattle.doc_sets.specs.Faults.{LacksPart}
 use Rattle.doc_sets.specs.declared.dictionary_lookup.Lookup.{Lookup}
 use Rattle.doc_sets.proofs.Causes.{handed_on}
 use Rattle.doc_sets.proofs.Searched.{searched}
@@ -20,8 +20,8 @@ returns-in_err-name_lists-clause-only c = λ documents p part ask.
     let e = c.in_err-name_lists.field-0.0 in
     let looked : c.as_slice.result.now ≡ request_lookups v.footer s r = c.as_slice.ensures ∙ (c.in_ok-lookups.ensures ∙ ap (λ footer. request_lookups footer s r) c.footer.ensures) in
     let cause = c.in_err-name_lists.ensures.only documents p (searched v s documents p part) in
-    handed_on (AreRangesOf (NeedsListed v s documents p r)) (HasCause (NeedsBlocks v s documents p r) v.pieces) c.from_residual-in_err-name_lists.result e c.from_residual-in_err-name_lists.ensures.1
-    (subst (λ (ls : List Lookup). HasCause (AsksBlocks v s documents p ls) v.pieces e) looked cause)
+    handed_on (AreRangesOf (NeedsListed v s documents p r)) (LacksPart (NeedsBlocks v s documents p r) v.pieces) c.from_residual-in_err-name_lists.result e c.from_residual-in_err-name_lists.ensures.1
+    (subst (λ (ls : List Lookup). LacksPart (AsksBlocks v s documents p ls) v.pieces e) looked cause)
 
 pub returns-clause-only : goal.returns-clause-only
 returns-clause-only c = λ documents p part ask.

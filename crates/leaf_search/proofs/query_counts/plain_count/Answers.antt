@@ -4,7 +4,7 @@ use Rattle.query_ast.specs.Meaning.{meaning}
 use Rattle.query_ast.specs.Sought.{view}
 use Rattle.split_bundle.specs.Lists.{posting_list}
 use Rattle.doc_sets.specs.Asking.{AsksLookups, LacksLookups}
-use Rattle.doc_sets.specs.Faults.{HasCause}
+use Rattle.doc_sets.specs.Faults.{LacksPart}
 use Rattle.doc_sets.specs.Needed.{IsBlockFor}
 use Rattle.doc_sets.proofs.Causes.{cause_wider}
 use Rattle.leaf_search.specs.Asks.{lookups_of}
@@ -23,7 +23,7 @@ returns-in-Some-clause-only c = λ documents p is can.
     let some = c.in-Some.is in
     let at : one_key s q ≡ Some c.in-Some.key = cc in
     let it : one_key s q ≡ Some key = at ∙ ap Some (sym c.as_slice.ensures) in
-    by_parts (λ (n : ℕ). n ≡ length (posting_list s documents key)) (λ (n : ℕ). n ≡ length (filter (λ d. meaning s d.doc q) documents)) (HasCause (IsBlockFor v s documents p key) v.pieces) (LacksLookups v s documents p (lookups_of v.footer s q))
+    by_parts (λ (n : ℕ). n ≡ length (posting_list s documents key)) (λ (n : ℕ). n ≡ length (filter (λ d. meaning s d.doc q) documents)) (LacksPart (IsBlockFor v s documents p key) v.pieces) (LacksLookups v s documents p (lookups_of v.footer s q))
     c.key_count.result
     (λ n e h. h ∙ key_counted s q key documents c.requires is.part.is_split.are_documents it can)
     (λ e cause. cause_wider (IsBlockFor v s documents p key) (AsksLookups v s documents p (lookups_of v.footer s q)) v.pieces e (λ at len b. block_asked v s documents p q key at len it b) cause)

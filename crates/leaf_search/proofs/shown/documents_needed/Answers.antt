@@ -1,6 +1,6 @@
 use Rattle.std.proofs.Common.{◌≡◌, ◌∙◌, ◌<◌, ℕ, List, [], inl, sym, subst, length, false}
 use Rattle.std.specs.List.{All}
-use Rattle.doc_sets.specs.Faults.{HasCause}
+use Rattle.doc_sets.specs.Faults.{LacksPart}
 use Rattle.doc_sets.proofs.Causes.{cause_wider, handed_on}
 use Rattle.leaf_search.specs.FileRanges.{AddsParts, AreRangesOf}
 use Rattle.leaf_search.specs.Shown.{AreFew, BytesOf, NeedsShown, NeedsStarts, OfEach, StartOf, are_few, shown_of}
@@ -18,7 +18,7 @@ returns-in_err-name_shown-in-Some-clause-only c = λ s documents p r part says.
     let few : AreFew s r documents c.in-Some.numbers.items = subst (Says s r documents) c.in-Some.is says in
     let same : ns ≡ shown_of s r documents = c.as_slice.ensures.value ∙ few.1 in
     let below : All (λ n. n < length documents) ns = few_below s r documents ns (few.0, same) in
-    handed_on (AreRangesOf (NeedsShown s documents p r)) (HasCause (NeedsStarts v s documents r) v.pieces) c.from_residual.result e c.from_residual.ensures.1
+    handed_on (AreRangesOf (NeedsShown s documents p r)) (LacksPart (NeedsStarts v s documents r) v.pieces) c.from_residual.result e c.from_residual.ensures.1
     (cause_wider (OfEach StartOf ns) (NeedsStarts v s documents r) v.pieces e (λ at len h. inl (few.0, subst (λ (l : List ℕ). OfEach StartOf l at len) same h)) (c.in_err-name_shown-in-Some.ensures s documents p part below))
 
 pub returns-clause-only : goal.returns-clause-only

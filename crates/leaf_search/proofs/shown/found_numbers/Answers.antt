@@ -3,7 +3,7 @@ use Rattle.doc_value.specs.declared.doc.DocField.{DocField}
 use Rattle.query_ast.specs.Meaning.{meaning}
 use Rattle.query_ast.specs.Sought.{view}
 use Rattle.doc_sets.specs.Asking.{AsksLookups}
-use Rattle.doc_sets.specs.Faults.{HasCause}
+use Rattle.doc_sets.specs.Faults.{LacksPart}
 use Rattle.doc_sets.proofs.Causes.{cause_wider}
 use Rattle.doc_sets.proofs.Searched.{searched}
 use Rattle.leaf_search.specs.Answers.{AsksTimes, passes}
@@ -20,7 +20,7 @@ returns-in_err-bits-clause-only c = λ documents p part ask.
     let v = c.args.view.now in
     let e = c.in_err-bits.field-0.0 in
     let asked : ℕ → ℕ → Type 0 = λ at len. AsksLookups v s documents p (lookups_of v.footer s (view r.query)) at len ⊎ AsksTimes v p s r.times at len in
-    handed (λ ns. ns.items ≡ numbers_of (passes s r) documents) (HasCause asked v.pieces) c.from_residual.result e c.from_residual.ensures.1
+    handed (λ ns. ns.items ≡ numbers_of (passes s r) documents) (LacksPart asked v.pieces) c.from_residual.result e c.from_residual.ensures.1
     (cause_wider (AsksLookups v s documents p (lookups_of v.footer s (view r.query))) asked v.pieces e (λ at len h. inl h) (c.in_err-bits.ensures.only documents p (searched v s documents p part) ask.query))
 
 pub returns-clause-only : goal.returns-clause-only

@@ -1,6 +1,6 @@
 use Rattle.std.proofs.Common.{◌<◌, drop, get_or, length}
 use Rattle.std.proofs.lemmas.List.Elements.{Contains-get_or}
-use Rattle.doc_sets.specs.Faults.{HasCause}
+use Rattle.doc_sets.specs.Faults.{LacksPart}
 use Rattle.doc_sets.proofs.Causes.{cause_wider, handed_on}
 use Rattle.doc_sets.proofs.Steps.{none_behind}
 use Rattle.doc_tallies.proofs.TimeValues.{stands}
@@ -27,7 +27,7 @@ returns-in_err-name_bytes c = λ s documents p part below.
     let n = get_or ns i 0 in
     let at = stands documents n (below i 0 lt) in
     let e = c.in_err-name_bytes.field-0.0 in
-    handed_on (λ (u : Unit {0}). AddsParts (OfEach (BytesOf p documents) ns) c.args.ranges.now c.name_bytes.new.ranges) (HasCause (OfEach StartOf ns) v.pieces) c.from_residual.result e c.from_residual.ensures.1
+    handed_on (λ (u : Unit {0}). AddsParts (OfEach (BytesOf p documents) ns) c.args.ranges.now c.name_bytes.new.ranges) (LacksPart (OfEach StartOf ns) v.pieces) c.from_residual.result e c.from_residual.ensures.1
     (cause_wider (StartOf n) (OfEach StartOf ns) v.pieces e (λ a l h. record { number = n; among = Contains-get_or ns i 0 lt; is_part = h }) (c.in_err-name_bytes.ensures s documents p at.document part at.here))
 
 pub returns : goal.returns

@@ -2,7 +2,7 @@ use Rattle.std.proofs.Common.{◌≡◌, ◌∙◌, ℕ, ◌<◌, ◌⊎◌, Lis
 use Rattle.std.specs.List.{All}
 use Rattle.query_ast.specs.Sought.{view}
 use Rattle.doc_sets.specs.Asking.{AsksLookups}
-use Rattle.doc_sets.specs.Faults.{HasCause}
+use Rattle.doc_sets.specs.Faults.{LacksPart}
 use Rattle.doc_sets.specs.declared.dictionary_lookup.Lookup.{Lookup}
 use Rattle.doc_sets.proofs.Causes.{cause_wider}
 use Rattle.doc_tallies.specs.Causes.{AsksField}
@@ -32,7 +32,7 @@ returns-in_err-numbers c = record {
       let v = c.args.view.now in
       let e = c.in_err-numbers.field-0.0 in
       let asked : ℕ → ℕ → Type 0 = λ at len. AsksLookups v s documents p (lookups_of v.footer s (view r.query)) at len ⊎ AsksTimes v p s r.times at len in
-      handed (Says s r documents) (HasCause (TellsShown v s documents p r) v.pieces) c.from_residual.result e c.from_residual.ensures.1
+      handed (Says s r documents) (LacksPart (TellsShown v s documents p r) v.pieces) c.from_residual.result e c.from_residual.ensures.1
       (cause_wider asked (TellsShown v s documents p r) v.pieces e
       (λ at len h. elim h [
         | inl x ↦ inl (subst (λ (ls : List Lookup). AsksLookups v s documents p ls at len) (sym (lookups_all v.footer s r c.if-request-eq0.false)) x)

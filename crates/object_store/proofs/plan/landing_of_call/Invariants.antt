@@ -1,5 +1,5 @@
 use Rattle.std.proofs.Common.{◌≡◌, drop}
-use Rattle.object_store.specs.Plan.{landing_of_call}
+use Rattle.object_store.specs.FaultPlan.{landing_of_call}
 use Rattle.object_store.proofs.plan.landing_of_call.Given as goal
 
 abbrev pub invariant-loop-call : goal.invariant-loop-call

@@ -5,7 +5,7 @@ use Rattle.quick_node.specs.Reading.{max_config}
 use Rattle.quick_node.specs.declared.creating.Whole.{Whole}
 use Rattle.quick_node.specs.declared.error_line.End.TheVariants as ended
 use Rattle.quick_node.proofs.Finding.{if_told, some_moment}
-use Rattle.quick_node.proofs.Founding.{untouched}
+use Rattle.quick_node.proofs.CreateLeaves.{untouched}
 use Rattle.quick_node.proofs.creating.create_index.Goals as goal
 
 pub returns-in-Ok-Text-clause-creates : goal.returns-in-Ok-Text-clause-creates

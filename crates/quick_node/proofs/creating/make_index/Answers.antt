@@ -7,7 +7,7 @@ use Rattle.index_world.proofs.Lives.{told_of}
 use Rattle.quick_node.specs.Opening.{outside_of, OutputStays}
 use Rattle.quick_node.specs.Reading.{max_config}
 use Rattle.quick_node.proofs.Finding.{moment_told, made_at, unmade_at, made_finds}
-use Rattle.quick_node.proofs.Founding.{first_core, first_world, made_up_to, unmade_up_to, says_by}
+use Rattle.quick_node.proofs.CreateLeaves.{first_core, first_world, made_up_to, unmade_up_to, says_by}
 use Rattle.quick_node.proofs.creating.make_index.Goals as goal
 
 pub returns-in-Ok-clause-makes : goal.returns-in-Ok-clause-makes

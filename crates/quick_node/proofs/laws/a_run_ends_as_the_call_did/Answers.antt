@@ -1,4 +1,4 @@
-use Rattle.quick_node.proofs.Driving.{run_ends}
+use Rattle.quick_node.proofs.DriveRun.{run_ends}
 use Rattle.quick_node.proofs.laws.a_run_ends_as_the_call_did.Goals as goal
 
 pub returns : goal.returns

@@ -1,4 +1,4 @@
-use Rattle.quick_node.proofs.Driving.{run_lives}
+use Rattle.quick_node.proofs.DriveRun.{run_lives}
 use Rattle.quick_node.proofs.laws.a_run_is_what_the_call_did.Goals as goal
 
 pub returns : goal.returns

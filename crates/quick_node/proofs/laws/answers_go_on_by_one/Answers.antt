@@ -1,4 +1,4 @@
-use Rattle.quick_node.proofs.Living.{answers_go_on}
+use Rattle.quick_node.proofs.NodeAtEnd.{answers_go_on}
 use Rattle.quick_node.proofs.laws.answers_go_on_by_one.Goals as goal
 
 pub returns : goal.returns

@@ -9,8 +9,8 @@ use Rattle.index_world.specs.Taking.{IsFaultBetween}
 use Rattle.quick_node.specs.Opening.{outside_of, OutputStays}
 use Rattle.quick_node.specs.Reporting.{report_text, SaysReport}
 use Rattle.quick_node.proofs.Finding.{found_report, written_finds}
-use Rattle.quick_node.proofs.Founding.{first_core, first_world}
-use Rattle.quick_node.proofs.Printing.{opens_landed, opens_not_landed, opened_up_to, unopened_up_to}
+use Rattle.quick_node.proofs.CreateLeaves.{first_core, first_world}
+use Rattle.quick_node.proofs.ReportLeaves.{opens_landed, opens_not_landed, opened_up_to, unopened_up_to}
 use Rattle.quick_node.proofs.reporting.write_report.Goals as goal
 
 pub at-requires : goal.at-requires

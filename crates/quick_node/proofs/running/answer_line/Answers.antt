@@ -3,7 +3,7 @@ use Rattle.std.proofs.lemmas.List.{append-nil}
 use Rattle.std.specs.Prelude.{Some}
 use Rattle.node_run.specs.Seen.{seen}
 use Rattle.quick_node.proofs.Taking.{short_takes, did_line, said_line}
-use Rattle.quick_node.proofs.Going.{if_ok_err}
+use Rattle.quick_node.proofs.RunSteps.{if_ok_err}
 use Rattle.quick_node.proofs.running.answer_line.Goals as goal
 
 pub step-requires-after_bounds : goal.step-requires-after_bounds

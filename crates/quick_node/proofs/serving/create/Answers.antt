@@ -2,9 +2,9 @@ use Rattle.std.proofs.Common.{sym, ap, ◌∙◌, subst, arith}
 use Rattle.quick_node.specs.Creating.{CreatesUpTo, EndsCreateBy, counts_at}
 use Rattle.quick_node.specs.Opening.{outside_of, CreateFinds, BeforeLine}
 use Rattle.quick_node.proofs.Caused.{made_causes}
-use Rattle.quick_node.proofs.Driven.{kept_logs}
+use Rattle.quick_node.proofs.DriveClause.{kept_logs}
 use Rattle.quick_node.proofs.Finding.{create_ends}
-use Rattle.quick_node.proofs.Founded.{created_after}
+use Rattle.quick_node.proofs.CreateClause.{created_after}
 use Rattle.quick_node.proofs.LongerLog.{index_longer}
 use Rattle.quick_node.proofs.serving.create.Goals as goal
 

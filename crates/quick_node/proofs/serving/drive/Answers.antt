@@ -10,9 +10,9 @@ use Rattle.index_world.specs.Opened.{OpensNot}
 use Rattle.quick_node.specs.Opening.{outside_of}
 use Rattle.quick_node.specs.Serve.{Opens}
 use Rattle.quick_node.specs.declared.error_line.End.TheVariants as ended
-use Rattle.quick_node.proofs.Driven.{new_moment, new_sure, new_unmarked, new_undoomed, opened_counts, begins, begins_along, unopened_along, kept_logs, returned}
+use Rattle.quick_node.proofs.DriveClause.{new_moment, new_sure, new_unmarked, new_undoomed, opened_counts, begins, begins_along, unopened_along, kept_logs, returned}
 use Rattle.quick_node.proofs.Finding.{opened_found}
-use Rattle.quick_node.proofs.UpToLast.{met_unopened}
+use Rattle.quick_node.proofs.BeforeLastLine.{met_unopened}
 use Rattle.quick_node.specs.Causes.{faults_of}
 use Rattle.quick_node.proofs.Caused.{opening_causes}
 use Rattle.quick_node.proofs.serving.drive.Goals as goal

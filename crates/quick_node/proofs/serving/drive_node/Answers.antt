@@ -9,8 +9,8 @@ use Rattle.node_run.specs.Standing.{GivesLogs}
 use Rattle.node_run.specs.Logs.{logs_in}
 use Rattle.quick_node.specs.Opening.{outside_of, SaysAlone}
 use Rattle.quick_node.specs.Running.{Counts, counts_of, Runs}
-use Rattle.quick_node.proofs.Driven.{opened_clock, opened_clients, opened_log, opened_readers, returned}
-use Rattle.quick_node.proofs.UpToLast.{met_run}
+use Rattle.quick_node.proofs.DriveClause.{opened_clock, opened_clients, opened_log, opened_readers, returned}
+use Rattle.quick_node.proofs.BeforeLastLine.{met_run}
 use Rattle.quick_node.proofs.Finding.{run_finds}
 use Rattle.quick_node.proofs.SameLog.{run_log}
 use Rattle.quick_node.proofs.Caused.{run_causes}

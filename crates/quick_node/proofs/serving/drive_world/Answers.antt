@@ -5,8 +5,8 @@ use Rattle.node_run.specs.Logs.{logs_in}
 use Rattle.node_run.specs.Standing.{NodeStands}
 use Rattle.node_run.specs.Standing.{fresh_node}
 use Rattle.quick_node.specs.declared.error_line.End.TheVariants as ended
-use Rattle.quick_node.proofs.Driven.{opened_is, opened_clock, opened_counts, kept_logs, returned}
-use Rattle.quick_node.proofs.UpToLast.{met_unstarted}
+use Rattle.quick_node.proofs.DriveClause.{opened_is, opened_clock, opened_counts, kept_logs, returned}
+use Rattle.quick_node.proofs.BeforeLastLine.{met_unstarted}
 use Rattle.quick_node.specs.Running.{counts_of}
 use Rattle.quick_node.proofs.Caused.{run_causes}
 use Rattle.quick_node.proofs.serving.drive_world.Goals as goal

@@ -1,5 +1,5 @@
 use Rattle.node_run.specs.Logs.{logs_in}
-use Rattle.quick_node.proofs.Driven.{all_later}
+use Rattle.quick_node.proofs.DriveClause.{all_later}
 use Rattle.quick_node.proofs.serving.ended.Goals as goal
 
 pub returns-clause-later : goal.returns-clause-later

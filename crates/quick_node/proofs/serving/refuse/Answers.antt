@@ -1,4 +1,4 @@
-use Rattle.quick_node.proofs.UpToLast.{wrote_words}
+use Rattle.quick_node.proofs.BeforeLastLine.{wrote_words}
 use Rattle.quick_node.proofs.Caused.{other_known}
 use Rattle.quick_node.proofs.serving.refuse.Goals as goal
 

@@ -3,10 +3,10 @@ use Rattle.object_store.specs.Store.{HasLanded, WhereTold}
 use Rattle.quick_node.specs.Opening.{outside_of, ReportFinds, BeforeLine}
 use Rattle.quick_node.specs.Reporting.{ReportsUpTo, EndsReportBy}
 use Rattle.quick_node.proofs.CausedReports.{report_causes}
-use Rattle.quick_node.proofs.Driven.{kept_logs}
+use Rattle.quick_node.proofs.DriveClause.{kept_logs}
 use Rattle.quick_node.proofs.Finding.{report_ends}
 use Rattle.quick_node.proofs.LongerLog.{index_longer}
-use Rattle.quick_node.proofs.Printed.{reported_after}
+use Rattle.quick_node.proofs.ReportClause.{reported_after}
 use Rattle.quick_node.proofs.serving.report.Goals as goal
 
 pub returns-clause-reports : goal.returns-clause-reports

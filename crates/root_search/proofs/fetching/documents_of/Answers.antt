@@ -3,7 +3,7 @@ use Rattle.std.specs.List.{AllZip}
 use Rattle.split_bundle.specs.declared.pieces.FilePiece.{FilePiece}
 use Rattle.leaf_search.specs.Shown.{NeedsStarts}
 use Rattle.leaf_search.proofs.Suffices.{held_memory}
-use Rattle.root_search.specs.SplitParts.{IsLentOf}
+use Rattle.root_search.specs.FetchedSplits.{IsLentOf}
 use Rattle.root_search.proofs.PartViews.{part_of, starts_held}
 use Rattle.root_search.proofs.fetching.documents_of.Goals as goal
 

@@ -4,7 +4,7 @@ use Rattle.index_world.specs.Gate.{grace_of}
 use Rattle.leaf_search.specs.FileRanges.{total}
 use Rattle.leaf_search.specs.declared.file_ranges.FileRange.{FileRange}
 use Rattle.root_search.specs.Fetching.{AreRangesFetched, IsPieceFetched}
-use Rattle.root_search.specs.SplitParts.{pieces_at}
+use Rattle.root_search.specs.FetchedSplits.{pieces_at}
 use Rattle.root_search.proofs.Fetches.{all_done, all_short, file_stands, made_as, none_made, then_failed, then_given}
 use Rattle.root_search.proofs.Kept.{kept_more, total_more}
 use Rattle.root_search.specs.FetchCalls.{AreKeptBehind, IsPieceRead, NeverRefused}

@@ -5,7 +5,7 @@ use Rattle.index_world.specs.Core.{Core, IsConfigured}
 use Rattle.index_world.specs.Gate.{grace_of}
 use Rattle.leaf_search.specs.FileRanges.{total}
 use Rattle.root_search.specs.Fetching.{IsFileAt}
-use Rattle.root_search.specs.SplitParts.{pieces_at}
+use Rattle.root_search.specs.FetchedSplits.{pieces_at}
 use Rattle.root_search.specs.FetchCalls.{AreKeptBehind, FetchCall}
 use Rattle.root_search.proofs.CallsMade.{AllGave}
 use Rattle.root_search.proofs.Fetches.{Made}

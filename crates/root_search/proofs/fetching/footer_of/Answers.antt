@@ -4,7 +4,7 @@ use Rattle.meta_store.specs.declared.planning.PlanRow.{PlanRow}
 use Rattle.split_bundle.specs.Files.{file_bytes}
 use Rattle.split_bundle.specs.declared.footer.Footer.{Footer}
 use Rattle.root_search.specs.Fetching.{FetchesAs, IsFooterFetched}
-use Rattle.root_search.specs.SplitParts.{IsKnown}
+use Rattle.root_search.specs.FetchedSplits.{IsKnown}
 use Rattle.root_search.proofs.Fetches.{all_done, none_made}
 use Rattle.root_search.proofs.Kept.{same_row}
 use Rattle.root_search.specs.FetchCalls.{IsFooterGiven, IsNoFooter, ReadsAs}

@@ -3,7 +3,7 @@ use Rattle.std.specs.List.{AllZip}
 use Rattle.split_bundle.specs.declared.pieces.FilePiece.{FilePiece}
 use Rattle.leaf_search.specs.Needs.{NeedsBlocks}
 use Rattle.leaf_search.proofs.Suffices.{held_memory}
-use Rattle.root_search.specs.SplitParts.{IsLentOf, over}
+use Rattle.root_search.specs.FetchedSplits.{IsLentOf, over}
 use Rattle.root_search.proofs.PartViews.{blocks_held, part_of}
 use Rattle.root_search.proofs.SameFooters.{listed_alike}
 use Rattle.root_search.proofs.fetching.lists_of.Goals as goal

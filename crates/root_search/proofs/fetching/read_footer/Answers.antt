@@ -2,7 +2,7 @@ use Rattle.std.proofs.Common.{◌≡◌, ◌+◌, ◌-◌, ◌≤◌, ℕ, refl,
 use Rattle.index_world.specs.Gate.{grace_of}
 use Rattle.split_bundle.specs.Files.{file_bytes}
 use Rattle.root_search.specs.Fetching.{IsPieceFetched, footer_drawn}
-use Rattle.root_search.specs.SplitParts.{IsFile, IsFooterIn}
+use Rattle.root_search.specs.FetchedSplits.{IsFile, IsFooterIn}
 use Rattle.root_search.proofs.Fetches.{all_short, file_stands, handed_on, made_of, of_match, then_failed, then_given}
 use Rattle.root_search.proofs.Tails.{long_enough, trailer_is, two_pieces}
 use Rattle.split_bundle.specs.Reading.{footer_of}

@@ -1,7 +1,7 @@
 use Rattle.std.proofs.Common.{◌≡◌, ◌++◌, List, sym, subst, ◌∙◌}
 use Rattle.std.specs.List.{AllZip}
 use Rattle.split_bundle.specs.declared.pieces.FilePiece.{FilePiece}
-use Rattle.root_search.specs.SplitParts.{IsLentOf, over}
+use Rattle.root_search.specs.FetchedSplits.{IsLentOf, over}
 use Rattle.root_search.proofs.PartViews.{part_of, tells_held}
 use Rattle.root_search.proofs.Needed.{starts_alike_named}
 use Rattle.root_search.proofs.fetching.starts_of.Goals as goal

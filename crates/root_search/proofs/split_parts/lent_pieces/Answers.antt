@@ -2,7 +2,7 @@ use Rattle.std.proofs.Common.{◌≡◌, ◌+◌, [], ◌∷◌, ◌++◌, take,
 use Rattle.std.specs.List.{AllZip}
 use Rattle.std.proofs.lemmas.List.{take_more}
 use Rattle.split_bundle.specs.declared.pieces.FilePiece.{FilePiece}
-use Rattle.root_search.specs.SplitParts.{IsLentOf}
+use Rattle.root_search.specs.FetchedSplits.{IsLentOf}
 use Rattle.root_search.proofs.Zipped.{zip_last}
 use Rattle.root_search.proofs.split_parts.lent_pieces.Goals as goal
 

@@ -1,6 +1,6 @@
 use Rattle.std.proofs.Common.{take}
 use Rattle.std.specs.List.{AllZip}
-use Rattle.root_search.specs.SplitParts.{IsLentOf}
+use Rattle.root_search.specs.FetchedSplits.{IsLentOf}
 use Rattle.root_search.proofs.split_parts.lent_pieces.Given as goal
 
 abbrev pub invariant-loop-piece : goal.invariant-loop-piece

@@ -1,7 +1,7 @@
 use Rattle.std.proofs.Common.{List, sym, subst, ◌∙◌}
 use Rattle.std.specs.List.{AllZip}
 use Rattle.split_bundle.specs.declared.pieces.FilePiece.{FilePiece}
-use Rattle.root_search.specs.SplitParts.{IsLentOf}
+use Rattle.root_search.specs.FetchedSplits.{IsLentOf}
 use Rattle.root_search.specs.declared.split_parts.KeptPiece.{KeptPiece}
 use Rattle.root_search.proofs.split_parts.view_of.Goals as goal
 

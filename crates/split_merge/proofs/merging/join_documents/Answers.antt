@@ -1,6 +1,6 @@
 use Rattle.std.proofs.Common.{◌∙◌, sym, subst, Err}
 use Rattle.split_merge.specs.Keeping.{joined, kept}
-use Rattle.split_merge.specs.Merging.{HasCause, Merges, MergesRead}
+use Rattle.split_merge.specs.Merging.{IsMergeFault, Merges, MergesRead}
 use Rattle.split_merge.proofs.MergeLemmas.{merges_by, reads_by, refused_cause, refused_merges, refused_reads}
 use Rattle.split_merge.proofs.merging.join_documents.Goals as goal
 
@@ -24,4 +24,4 @@ pub returns-in-Err-clause-read : goal.returns-in-Err-clause-read
 returns-in-Err-clause-read c = λ ds h. subst (λ e. MergesRead c.args.schema.now ds (Err e)) (sym c.refusal_of.ensures) (refused_reads c.args.schema.now ds c.in-Err.refusal (c.in-Err.ensures ds (c.count_and_weight-count.ensures.count ∙ h.facts.count) (c.count_and_weight-count.ensures.weight ∙ h.weight)))
 
 pub returns-in-Err-clause-cause : goal.returns-in-Err-clause-cause
-returns-in-Err-clause-cause c = subst (HasCause c.args.schema.now c.args.views.now) (sym c.refusal_of.ensures) (refused_cause c.args.schema.now c.args.views.now c.in-Err.refusal)
+returns-in-Err-clause-cause c = subst (IsMergeFault c.args.schema.now c.args.views.now) (sym c.refusal_of.ensures) (refused_cause c.args.schema.now c.args.views.now c.in-Err.refusal)

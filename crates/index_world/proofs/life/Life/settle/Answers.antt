@@ -3,7 +3,7 @@ use Rattle.std.specs.Prelude.{Option, Some, None, Result, Ok, Err, IfErr}
 use Rattle.meta_journal.specs.Journal.{Settles, place_settled, FaultIs}
 use Rattle.meta_journal.specs.declared.entry.Entry.{Entry}
 use Rattle.meta_journal.specs.declared.journal_error.JournalError.{JournalError}
-use Rattle.meta_journal.specs.declared.place.Place.TheVariants.{Sure}
+use Rattle.meta_journal.specs.declared.place.JournalPlace.TheVariants.{Sure}
 use Rattle.object_store.specs.Store.{WhereTold}
 use Rattle.index_world.specs.Answering.{Follows}
 use Rattle.index_world.specs.Unsure.{is_unsure}

@@ -7,7 +7,7 @@ use Rattle.meta_store.specs.declared.planning.PlanRow.{PlanRow}
 use Rattle.split_bundle.specs.Files.{file_bytes}
 use Rattle.root_search.specs.Fetching.{IsPartFetched, part_calls}
 use Rattle.root_search.specs.Footers.{entries}
-use Rattle.root_search.specs.SplitParts.{IsFooterIn}
+use Rattle.root_search.specs.FetchedSplits.{IsFooterIn}
 use Rattle.root_search.specs.Searching.{Ends, FaultEnds, documents_at}
 use Rattle.root_search.specs.Steps.{config_at, fetch_by, or_short}
 use Rattle.root_search.specs.declared.outcome.SearchStep.TheVariants.{Fetched}

@@ -6,7 +6,7 @@ use Rattle.index_world.specs.Seen.{visible_at}
 use Rattle.root_search.specs.Answer.{answer}
 use Rattle.root_search.specs.Searching.{Ends, rows_at, documents_at}
 use Rattle.root_search.specs.PartAnswers.{AreFound}
-use Rattle.root_search.specs.SplitParts.{HasNeeded}
+use Rattle.root_search.specs.FetchedSplits.{HasNeeded}
 use Rattle.root_search.specs.Steps.{answer_of, reply_with}
 use Rattle.root_search.specs.declared.outcome.SearchStep.TheVariants.{Fetched}
 use Rattle.root_search.proofs.Bounds.{no_answer, no_draw}

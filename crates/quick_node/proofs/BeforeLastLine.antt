@@ -20,7 +20,7 @@ use Rattle.quick_node.specs.Running.{Counts, IsRunEnd, HasRunEnd, HasRun, HasWri
 use Rattle.quick_node.specs.Serve.{CutShort, WroteMost, Before, After, End, by_reading, no_index, opening_failed, read_failed, write_failed, out_of_memory, status_of, error_line, error_of, WroteLine, Wrote, HasEnd, Opens, Answers, Unopened, Lives, BeginsAlong, Along}
 use Rattle.quick_node.specs.declared.error_line.End.{End as Ended}
 use Rattle.quick_node.specs.declared.error_line.End.TheVariants as ended
-use Rattle.quick_node.proofs.Driving.{run_ends, run_lives}
+use Rattle.quick_node.proofs.DriveRun.{run_ends, run_lives}
 use Rattle.quick_node.proofs.Short.{opens_short}
 
 -- So much was written, and this node is left, and this of the input. The counts of reading and of writing stand so.

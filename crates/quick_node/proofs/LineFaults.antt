@@ -42,7 +42,7 @@ use Rattle.upkeep_run.specs.Outcomes.{UpkeepOutcome}
 use Rattle.upkeep_run.specs.declared.work.Aim.{Aim}
 use Rattle.upkeep_run.specs.declared.work.Aim.TheVariants.{Deleting, Merging}
 use Rattle.node_run.specs.Node.{Node, Line, At, Assign, StepIndexer, RestartIndexer, RestartClient, StepMerger, RestartMerger, StepDeleter, RestartDeleter, StepCollector, RestartCollector, RestartNode, Open, StepClient, Outcome}
-use Rattle.node_run.specs.Turns.{Luck, Turned, indexer_at, indexing_luck, searching_luck, said_by_indexer, said_by_client, said_by_collector, assign_at, indexer_turn_by, client_turn_by, client_named, collecting_luck, collector_turn_by, open_by, restart_by, full_turn, quiet, or_quiet, turn_by, Turn, Turns, working_luck, said_by_worker, worker_turn_by, with_deleter, with_merger}
+use Rattle.node_run.specs.Turns.{LineLuck, Turned, indexer_at, indexing_luck, searching_luck, said_by_indexer, said_by_client, said_by_collector, assign_at, indexer_turn_by, client_turn_by, client_named, collecting_luck, collector_turn_by, open_by, restart_by, full_turn, quiet, or_quiet, turn_by, Turn, Turns, working_luck, said_by_worker, worker_turn_by, with_deleter, with_merger}
 use Rattle.node_run.proofs.Refusals.{OfText, asked_of_text}
 use Rattle.node_run.specs.Telling.{IsOfText}
 use Rattle.quick_node.specs.Faults.{Interval, AreBetween, indexer_told, refusal_told, said_told, search_told, store_told}
@@ -105,7 +105,7 @@ checkpoints_said low log indexer (Ok done) core g = record { says = g.on; on = g
 checkpoints_said low log indexer (Err trouble) core g =
     as_said trouble_told low (gives {A = ⊤} (Err trouble) core) _ core g (trouble_said trouble) refl
 
-module _ (luck : indexing.Luck) (log : Log) (core : Core) (bound : core.store_faults ≤ last_count) where
+module _ (luck : indexing.IndexerLuck) (log : Log) (core : Core) (bound : core.store_faults ≤ last_count) where
   take_said : (indexer : Indexer) → Stepping core.store_faults (take_checkpoints luck log indexer core)
   take_said indexer =
       checkpoints_said core.store_faults log indexer (looked luck.world core).answer (looked luck.world core).core
@@ -260,7 +260,7 @@ fetch_said : (low : ℕ) (r : Result ⊤ Trouble) (plan : Plan) (number : ℕ) (
 fetch_said low (Ok done) plan number more client core g = record { says = g.on; on = g.on; bound = g.bound }
 fetch_said low (Err trouble) plan number more client core g = replied_said low plan.revision trouble client core (record { says = g.says; on = g.on; bound = g.bound })
 
-module _ (luck : searching.Luck) (log : Log) (client : Client) (core : Core) (bound : core.store_faults ≤ last_count) where
+module _ (luck : searching.ClientLuck) (log : Log) (client : Client) (core : Core) (bound : core.store_faults ≤ last_count) where
   next_said : (plan : Plan) (unfetched : List ℕ) → Searching core.store_faults (next_step luck log plan unfetched client core)
   next_said plan [] =
       let documents = visible_at plan.revision core.history log in
@@ -321,7 +321,7 @@ restart_said low (Err (not_read (faulted fault))) core node g = record { says = 
 restart_said low (Err (not_read no_memory)) core node g = record { says = g.on; on = g.on; bound = g.bound }
 restart_said low (Err calls.no_index) core node g = record { says = g.on; on = g.on; bound = g.bound }
 
-module _ (luck : Luck) (node : Node) (bound : node.core.store_faults ≤ last_count) where
+module _ (luck : LineLuck) (node : Node) (bound : node.core.store_faults ≤ last_count) where
   assign_said : (place : Place) (i : ℕ) (names : List (List ℕ)) (indexer : Indexer) → Turning node.core.store_faults (assign_at place i names indexer node)
   assign_said idle i names indexer = still node.core bound
   assign_said (reading batch) i names indexer = still node.core bound
@@ -393,7 +393,7 @@ quiet_said low true line turn p =
     record { says = omega (arith, e, p.on); on = omega (arith, e, p.on); bound = omega (arith, e, p.bound) }
 quiet_said low false line turn p = p
 
-by_said : (b : Bool) (luck : Luck) (node : Node) (line : Line) → node.core.store_faults ≤ last_count → Turning node.core.store_faults (turn_by b luck node line)
+by_said : (b : Bool) (luck : LineLuck) (node : Node) (line : Line) → node.core.store_faults ≤ last_count → Turning node.core.store_faults (turn_by b luck node line)
 by_said true luck node line bound =
     let e = quiet_count line node in
     record { says = omega (arith, e); on = omega (arith, e); bound = omega (arith, e, bound) }

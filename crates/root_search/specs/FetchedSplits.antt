@@ -15,8 +15,8 @@ use Rattle.split_bundle.specs.declared.part_view.PartView.{PartView}
 use Rattle.split_bundle.specs.declared.pieces.FilePiece.{FilePiece}
 use Rattle.split_bundle.specs.declared.placed.Placed.{Placed}
 use Rattle.root_search.specs.declared.split_parts.KeptPiece.{KeptPiece}
-use Rattle.root_search.specs.declared.split_parts.KeptSplit.{KeptSplit}
-use Rattle.root_search.specs.declared.split_parts.SplitPart.{SplitPart}
+use Rattle.root_search.specs.declared.split_parts.FetchedPieces.{FetchedPieces}
+use Rattle.root_search.specs.declared.split_parts.FetchedSplit.{FetchedSplit}
 
 -- so many bytes of a file from a place on, as far as it has them
 abbrev pub piece_at : List ℕ → FileRange → KeptPiece
@@ -30,7 +30,7 @@ abbrev pub over : Footer → PartView
 over footer = record { footer = footer; pieces = [] }
 
 -- what is kept is what the request needs of the split of these documents: the footer, and exactly the ranges that it needs
-pub record HasNeeded (s : Schema) (r : LeafRequest) (part : SplitPart) (documents : List Placed) : Type 0 where
+pub record HasNeeded (s : Schema) (r : LeafRequest) (part : FetchedSplit) (documents : List Placed) : Type 0 where
   pub parts : Parts
   pub is_split : IsSplitOf s documents parts
   pub footer : IsFooterOf parts part.footer
@@ -71,11 +71,11 @@ pub record IsLentOf (kept : KeptPiece) (piece : FilePiece) : Type 0 where
   pub bytes : piece.bytes.now ≡ kept.bytes
 
 -- what is kept beside its footer
-abbrev pub beside_footer : SplitPart → KeptSplit
+abbrev pub beside_footer : FetchedSplit → FetchedPieces
 beside_footer part = record { number = part.number; pieces = part.pieces }
 
 -- the footers of parts, and what is kept beside them
-abbrev pub IsParted : List SplitPart → List Footer → List KeptSplit → Type 0
+abbrev pub IsParted : List FetchedSplit → List Footer → List FetchedPieces → Type 0
 IsParted parts footers splits = (footers ≡ map (λ part. part.footer) parts) × (splits ≡ map beside_footer parts)
 
 -- ---- footers of files

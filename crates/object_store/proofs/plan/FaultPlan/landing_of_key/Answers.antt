@@ -1,5 +1,5 @@
 use Rattle.object_store.proofs.Plans.{landing_there}
-use Rattle.object_store.proofs.plan.Plan.landing_of_key.Goals as goal
+use Rattle.object_store.proofs.plan.FaultPlan.landing_of_key.Goals as goal
 
 pub returns-in-Some : goal.returns-in-Some
 returns-in-Some c =

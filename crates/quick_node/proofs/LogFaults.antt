@@ -28,11 +28,11 @@ use Rattle.upkeep_run.specs.Outcomes.{UpkeepOutcome}
 use Rattle.upkeep_run.specs.declared.work.Aim.{Aim}
 use Rattle.upkeep_run.specs.declared.work.Aim.TheVariants.{Deleting, Merging}
 use Rattle.node_run.specs.Node.{Node, Line, At, Assign, StepIndexer, RestartIndexer, RestartClient, StepMerger, RestartMerger, StepDeleter, RestartDeleter, StepCollector, RestartCollector, RestartNode, Open, StepClient, Outcome}
-use Rattle.node_run.specs.Turns.{Luck, Turned, made_idle, indexer_at, indexing_luck, said_by_indexer, said_by_client, said_by_collector, assign_at, indexer_turn_by, client_turn_by, client_named, collector_turn_by, open_by, restart_by, full_turn, quiet, or_quiet, turn_by, Turn, Turns, said_by_worker, worker_turn_by, with_deleter, with_merger}
+use Rattle.node_run.specs.Turns.{LineLuck, Turned, made_idle, indexer_at, indexing_luck, said_by_indexer, said_by_client, said_by_collector, assign_at, indexer_turn_by, client_turn_by, client_named, collector_turn_by, open_by, restart_by, full_turn, quiet, or_quiet, turn_by, Turn, Turns, said_by_worker, worker_turn_by, with_deleter, with_merger}
 use Rattle.quick_node.specs.Faults.{Interval, AreBetween, source_told, log_told}
 use Rattle.quick_node.specs.Serve.{Before, End, by_reading, no_index, opening_failed, read_failed, write_failed, out_of_memory, IsFresh, Opens, Answers, Unopened, RanShort, Lives}
 use Rattle.quick_node.proofs.Calmed.{reader_counts}
-use Rattle.quick_node.proofs.Faulting.{between_more}
+use Rattle.quick_node.proofs.LineFaults.{between_more}
 
 -- what is told of a log lies between its count before and behind, which has an end
 record Tells (low : ℕ) (told : List Interval) (count : ℕ) : Type 0 where
@@ -62,7 +62,7 @@ call_rose call count bound e = by (or_cases (nat_lt count (risen count call.rise
 abbrev Steps : ℕ → Stepped → Type 0
 Steps low step = Tells low (by_indexer step.outcome) step.indexer.log_faults
 
-module _ (luck : indexing.Luck) (log : Log) (low : ℕ) where
+module _ (luck : indexing.IndexerLuck) (log : Log) (low : ℕ) where
   -- what trouble says is of no log
   trouble_tells : (trouble : Trouble) (place : Place) (indexer : Indexer) (core : Core) → Tells low [] indexer.log_faults → Steps low (stepped (trouble_outcome trouble) place indexer core)
   trouble_tells (faulted fault) place indexer core t = record { says = t.says; bound = t.bound }
@@ -109,7 +109,7 @@ module _ (luck : indexing.Luck) (log : Log) (low : ℕ) where
       subst (λ told. Tells low told indexer.log_faults) (sym (refused_quiet held.number refusal)) t
   publish_tells (Err (troubled trouble)) held indexer core t = trouble_tells trouble idle indexer core t
 
-module _ (luck : indexing.Luck) (log : Log) (indexer : Indexer) (bound : indexer.log_faults ≤ last_count) where
+module _ (luck : indexing.IndexerLuck) (log : Log) (indexer : Indexer) (bound : indexer.log_faults ≤ last_count) where
   abbrev count : ℕ
   count = indexer.log_faults
 
@@ -262,7 +262,7 @@ module _ (i : ℕ) (node : Node) (within : i < length node.indexers) (bound : co
   other_told j None e = refl
   other_told j (Some outcome) e = ap (λ b. if b then source_told outcome else []) e
 
-  stepped_turn : (luck : Luck) (j : ℕ) (b : Bool) → (j == i) ≡ b →
+  stepped_turn : (luck : LineLuck) (j : ℕ) (b : Bool) → (j == i) ≡ b →
       Turns_ (indexer_turn_by false luck j node)
   stepped_turn luck j true e =
       let at : j ≡ i = eqb-true j i e in
@@ -281,7 +281,7 @@ module _ (i : ℕ) (node : Node) (within : i < length node.indexers) (bound : co
       let step = step_indexer (indexing_luck luck) node.log (indexer_at node.indexers j) node.core in
       quiet_turn _ (other_told j step.outcome e) (set_other node.indexers i j step.indexer (eqb-false j i e)) (set_long node.indexers j step.indexer)
 
-  indexer_turn : (down : Bool) (luck : Luck) (j : ℕ) → Turns_ (indexer_turn_by down luck j node)
+  indexer_turn : (down : Bool) (luck : LineLuck) (j : ℕ) → Turns_ (indexer_turn_by down luck j node)
   indexer_turn true luck j = quiet_turn _ refl refl refl
   indexer_turn false luck j = stepped_turn luck j (j == i) refl
 
@@ -289,7 +289,7 @@ module _ (i : ℕ) (node : Node) (within : i < length node.indexers) (bound : co
   client_quiet name None = refl
   client_quiet name (Some outcome) = refl
 
-  client_turn : (down : Bool) (luck : Luck) (name : List ℕ) → Turns_ (client_turn_by down luck name node)
+  client_turn : (down : Bool) (luck : LineLuck) (name : List ℕ) → Turns_ (client_turn_by down luck name node)
   client_turn true luck name = quiet_turn _ refl refl refl
   client_turn false luck name = quiet_turn _ (client_quiet name _) refl refl
 
@@ -301,15 +301,15 @@ module _ (i : ℕ) (node : Node) (within : i < length node.indexers) (bound : co
   worker_quiet aim None = refl
   worker_quiet aim (Some outcome) = refl
 
-  merger_turn : (down : Bool) (luck : Luck) → Turns_ (worker_turn_by down Merging node.merger with_merger luck node)
+  merger_turn : (down : Bool) (luck : LineLuck) → Turns_ (worker_turn_by down Merging node.merger with_merger luck node)
   merger_turn true luck = quiet_turn _ refl refl refl
   merger_turn false luck = quiet_turn _ (worker_quiet Merging _) refl refl
 
-  deleter_turn : (down : Bool) (luck : Luck) → Turns_ (worker_turn_by down Deleting node.deleter with_deleter luck node)
+  deleter_turn : (down : Bool) (luck : LineLuck) → Turns_ (worker_turn_by down Deleting node.deleter with_deleter luck node)
   deleter_turn true luck = quiet_turn _ refl refl refl
   deleter_turn false luck = quiet_turn _ (worker_quiet Deleting _) refl refl
 
-  collector_turn : (down : Bool) (luck : Luck) → Turns_ (collector_turn_by down luck node)
+  collector_turn : (down : Bool) (luck : LineLuck) → Turns_ (collector_turn_by down luck node)
   collector_turn true luck = quiet_turn _ refl refl refl
   collector_turn false luck = quiet_turn _ (collector_quiet _) refl refl
 
@@ -322,7 +322,7 @@ module _ (i : ℕ) (node : Node) (within : i < length node.indexers) (bound : co
   set_idle : (j : ℕ) → count_at (slice_set node.indexers j (made_idle (indexer_at node.indexers j))) i ≡ count_at node.indexers i
   set_idle j = set_counts j (j == i) (made_idle (indexer_at node.indexers j)) refl refl
 
-  full_tells : (luck : Luck) (line : Line) → Turns_ (full_turn luck node line)
+  full_tells : (luck : LineLuck) (line : Line) → Turns_ (full_turn luck node line)
   full_tells luck (At moment) = quiet_turn _ refl refl refl
   full_tells luck (Assign j names) = assign_turn (indexer_at node.indexers j).place j names
   full_tells luck (StepIndexer j) = indexer_turn node.down luck j
@@ -388,7 +388,7 @@ or_quiet_tells i long low true line turn within bound t =
 or_quiet_tells i long low false line turn within bound t = t
 
 module _ (i : ℕ) (node : Node) (within : i < length node.indexers) (bound : count_at node.indexers i ≤ last_count) where
-  turn_by_tells : (b : Bool) (luck : Luck) (line : Line) → Turning i (length node.indexers) (count_at node.indexers i) (turn_by b luck node line)
+  turn_by_tells : (b : Bool) (luck : LineLuck) (line : Line) → Turning i (length node.indexers) (count_at node.indexers i) (turn_by b luck node line)
   turn_by_tells true luck line =
       quiet_turn i node within bound _ refl (quiet_counts i node within bound line) (quiet_long i node within bound line)
   turn_by_tells false luck line =

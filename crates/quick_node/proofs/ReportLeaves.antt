@@ -20,7 +20,7 @@ use Rattle.quick_node.specs.declared.error_line.End.{End as Ended}
 use Rattle.quick_node.specs.declared.error_line.End.TheVariants as ended
 use Rattle.quick_node.specs.declared.reporting.Report.{Report}
 use Rattle.quick_node.proofs.Exact.{opening_found}
-use Rattle.quick_node.proofs.Founding.{first_core, unread_on}
+use Rattle.quick_node.proofs.CreateLeaves.{first_core, unread_on}
 
 -- ---- opening writes nothing
 

@@ -16,8 +16,8 @@ use Rattle.quick_node.specs.Serve.{IsPrefixOf, Before, After, WroteLine, IsCalm,
 use Rattle.quick_node.specs.declared.error_line.End.{End as Ended}
 use Rattle.quick_node.specs.declared.error_line.End.TheVariants as ended
 use Rattle.quick_node.specs.declared.reporting.Report.{Report}
-use Rattle.quick_node.proofs.Founded.{no_rise, line_of, silent}
-use Rattle.quick_node.proofs.Founding.{nothing_landed}
+use Rattle.quick_node.proofs.CreateClause.{no_rise, line_of, silent}
+use Rattle.quick_node.proofs.CreateLeaves.{nothing_landed}
 use Rattle.quick_node.proofs.Onces.{holds_once, covers_at, are_left}
 use Rattle.quick_node.proofs.Reached.{landed_stand}
 

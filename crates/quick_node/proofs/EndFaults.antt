@@ -7,7 +7,7 @@ use Rattle.index_world.specs.Core.{last_count}
 use Rattle.node_run.specs.Node.{Node, Line, Outcome}
 use Rattle.quick_node.specs.Faults.{AreBetween, store_told}
 use Rattle.quick_node.specs.Serve.{Before, End, by_reading, no_index, opening_failed, read_failed, write_failed, out_of_memory, end_told, Opens, Answers, Unopened, RanShort, Lives}
-use Rattle.quick_node.proofs.Faulting.{opening_told, opening_says, between_more, turns_told, turns_bound, turn_on}
+use Rattle.quick_node.proofs.LineFaults.{opening_told, opening_says, between_more, turns_told, turns_bound, turn_on}
 
 module _ (before : Before) (fresh : Node) (bound : fresh.core.store_faults ≤ last_count) where
   record Opened (answer : Result ⊤ Unread) (node : Node) : Type 0 where

@@ -30,17 +30,17 @@ use Rattle.quick_node.proofs.Calmed.{reader_counts, lives_calm}
 use Rattle.quick_node.proofs.Exact.{exact_status}
 use Rattle.quick_node.proofs.Expiring.{lives_expire}
 use Rattle.quick_node.proofs.Gathered.{along_collects}
-use Rattle.quick_node.proofs.Living.{opens_moves, lives_follow}
+use Rattle.quick_node.proofs.NodeAtEnd.{opens_moves, lives_follow}
 use Rattle.quick_node.proofs.Merged.{lives_merge}
 use Rattle.quick_node.proofs.LongerLog.{index_longer}
 use Rattle.quick_node.proofs.Onces.{configured_on, holds_once, covers_at, are_left}
 use Rattle.quick_node.specs.Once.{Reaches}
-use Rattle.quick_node.proofs.Faulting.{none_told}
+use Rattle.quick_node.proofs.LineFaults.{none_told}
 use Rattle.quick_node.proofs.Files.{Few, Takes, leaves_of, loaded_few}
 use Rattle.quick_node.proofs.Reached.{reaches, reaches_itself}
-use Rattle.quick_node.proofs.Sources.{lives_between}
-use Rattle.quick_node.proofs.Telling.{lives_told}
-use Rattle.quick_node.proofs.UpToLast.{Met, printed_on, silent_short, most_on}
+use Rattle.quick_node.proofs.LogFaults.{lives_between}
+use Rattle.quick_node.proofs.EndFaults.{lives_told}
+use Rattle.quick_node.proofs.BeforeLastLine.{Met, printed_on, silent_short, most_on}
 
 -- ---- a fresh node, and what opening makes of it
 
