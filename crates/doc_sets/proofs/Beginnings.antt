@@ -2,15 +2,11 @@
 use Rattle.std.proofs.Common.{◌≡◌, ℕ, ◌⊎◌, inl, inr, Bool, true, false, ◌&&◌, ◌||◌, List, [], ◌∷◌, nat_eq, if◌then◌else◌, refl, ap, ◌∙◌, eq-eqb}
 use Rattle.std.specs.List.{starts_with}
 use Rattle.std.specs.Str.{bytes_eq}
-use Rattle.std.proofs.lemmas.Bool.{eqb-true}
+use Rattle.std.proofs.lemmas.Bool.{eqb-true, or_cases}
 use Rattle.split_bundle.specs.Keys.{Occurrence}
 use Rattle.split_bundle.specs.Lists.{has_key}
 use Rattle.doc_sets.specs.Asked.{begins, beginning, such, chosen, has_some, is_listed}
 use Rattle.doc_sets.proofs.PhraseKeys.{alike}
-
-or_either : (a b : Bool) → a || b ≡ true → (a ≡ true) ⊎ (b ≡ true)
-or_either true b h = inl refl
-or_either false b h = inr h
 
 or_right : (a b : Bool) → b ≡ true → a || b ≡ true
 or_right true b h = refl
@@ -41,7 +37,7 @@ bytes_same (x ∷ xs) = ap (λ b. b && bytes_eq xs xs) (eq-eqb x x refl) ∙ byt
 -- a key that is listed, begins so and is had is one of those
 listed_some : (test : List ℕ → Bool) (key : List ℕ) (ks : List (List ℕ)) (os : List Occurrence) → is_listed key ks ≡ true → test key ≡ true → has_key key os ≡ true → has_some (chosen test ks) os ≡ true
 listed_some test key [] os h s k = h
-listed_some test key (x ∷ ks) os h s k = go (or_either (bytes_eq x key) (is_listed key ks) h) (λ e. listed_some test key ks os e s k)
+listed_some test key (x ∷ ks) os h s k = go (or_cases (bytes_eq x key) (is_listed key ks) h) (λ e. listed_some test key ks os e s k)
   where
     skip : (b : Bool) → has_some (chosen test ks) os ≡ true → has_some (if b then x ∷ chosen test ks else chosen test ks) os ≡ true
     skip true r = or_right (has_key x os) (has_some (chosen test ks) os) r
@@ -56,7 +52,7 @@ listed_some test key (x ∷ ks) os h s k = go (or_either (bytes_eq x key) (is_li
 
 begun : (test : List ℕ → Bool) (ks : List (List ℕ)) (os all : List Occurrence) → ((key : List ℕ) → has_key key os ≡ true → has_key key all ≡ true) → ((key : List ℕ) → has_key key all ≡ true → is_listed key ks ≡ true) → such test os ≡ true → has_some (chosen test ks) all ≡ true
 begun test ks [] all sub listed h = absurd (cc)
-begun test ks (o ∷ os) all sub listed h = go (or_either (test o.key) (such test os) h) (λ e. begun test ks os all (λ key k. sub key (or_right (bytes_eq o.key key) (has_key key os) k)) listed e)
+begun test ks (o ∷ os) all sub listed h = go (or_cases (test o.key) (such test os) h) (λ e. begun test ks os all (λ key k. sub key (or_right (bytes_eq o.key key) (has_key key os) k)) listed e)
   where
     go : ((test o.key ≡ true) ⊎ (such test os ≡ true)) → (such test os ≡ true → has_some (chosen test ks) all ≡ true) → has_some (chosen test ks) all ≡ true
     go (inl e) r = let k = sub o.key (or_left (bytes_eq o.key o.key) (has_key o.key os) (bytes_same o.key)) in listed_some test o.key ks all (listed o.key k) e k
@@ -64,7 +60,7 @@ begun test ks (o ∷ os) all sub listed h = go (or_either (test o.key) (such tes
 
 key_such : (test : List ℕ → Bool) (key : List ℕ) (os : List Occurrence) → has_key key os ≡ true → test key ≡ true → such test os ≡ true
 key_such test key [] h s = h
-key_such test key (o ∷ os) h s = go (or_either (bytes_eq o.key key) (has_key key os) h) (λ e. key_such test key os e s)
+key_such test key (o ∷ os) h s = go (or_cases (bytes_eq o.key key) (has_key key os) h) (λ e. key_such test key os e s)
   where
     go : ((bytes_eq o.key key ≡ true) ⊎ (has_key key os ≡ true)) → (has_key key os ≡ true → such test os ≡ true) → test o.key || such test os ≡ true
     go (inl e) r = or_left (test o.key) (such test os) (ap (λ y. test y) (same_bytes o.key key e) ∙ s)
@@ -76,7 +72,7 @@ some_such test (k ∷ ks) os h = go (test k) refl (some_such test ks os) h
   where
     go : (b : Bool) → test k ≡ b → (has_some (chosen test ks) os ≡ true → such test os ≡ true) → has_some (if b then k ∷ chosen test ks else chosen test ks) os ≡ true → such test os ≡ true
     go false s r h = r h
-    go true s r h = elim (or_either (has_key k os) (has_some (chosen test ks) os) h) [ inl e ↦ key_such test k os e s | inr e ↦ r e ]
+    go true s r h = elim (or_cases (has_key k os) (has_some (chosen test ks) os) h) [ inl e ↦ key_such test k os e s | inr e ↦ r e ]
 
 -- where every key of the document is listed
 pub such_is_some : (test : List ℕ → Bool) (ks : List (List ℕ)) (os : List Occurrence) → ((key : List ℕ) → has_key key os ≡ true → is_listed key ks ≡ true) → such test os ≡ has_some (chosen test ks) os

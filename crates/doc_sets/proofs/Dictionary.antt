@@ -1,5 +1,6 @@
 -- A key that a dictionary has not is no document's.
 use Rattle.std.proofs.Common.{◌≡◌, ℕ, zero, suc, ◌+◌, ◌<◌, Bool, true, false, ◌||◌, cond, List, [], ◌∷◌, length, get_or, slice_get, Option, Some, None, IsTrue, refl, sym, ap, subst, ◌∙◌, arith}
+use Rattle.std.proofs.lemmas.Bool.{or_parts}
 use Rattle.std.specs.Str.{bytes_eq}
 use Rattle.std.proofs.lemmas.Map.Text.{is_eq-slice_cmp}
 use Rattle.std.proofs.lemmas.Slice.Eq.{bytes_eq-Decides}
@@ -44,12 +45,8 @@ module _ (s : Schema) (ds : List Placed) (key : List ℕ) where
   pub no_document : (keys : List (List ℕ)) → AreKeys s ds keys → lookup key (terms_of s ds keys) ≡ none → stands_in s key ds ≡ false
   no_document keys are found = not_true (stands_in s key ds) (λ stands. let listed = (are.exact key).1 stands in listed_is_found keys 0 0 listed.0 listed.1 listed.2 found)
 
-or_none : (a b : Bool) → (a || b) ≡ false → (a ≡ false) × (b ≡ false)
-or_none true b e = absurd (cc)
-or_none false b e = (refl, e)
-
 -- a key that stands in no document is not one of a document among them
 pub not_here : (s : Schema) (key : List ℕ) (i : ℕ) (d : Placed) (ds : List Placed) → slice_get ds i ≡ Some d → stands_in s key ds ≡ false → has_key key (keys_of s d.doc) ≡ false
 not_here s key i d [] got none = absurd (cc)
-not_here s key zero d (x ∷ xs) got none = let same : x ≡ d = cc in ap (λ y. has_key key (keys_of s y.doc)) (sym same) ∙ (or_none (has_key key (keys_of s x.doc)) (stands_in s key xs) none).0
-not_here s key (suc i) d (x ∷ xs) got none = not_here s key i d xs got (or_none (has_key key (keys_of s x.doc)) (stands_in s key xs) none).1
+not_here s key zero d (x ∷ xs) got none = let same : x ≡ d = cc in ap (λ y. has_key key (keys_of s y.doc)) (sym same) ∙ (or_parts (has_key key (keys_of s x.doc)) (stands_in s key xs) none).0
+not_here s key (suc i) d (x ∷ xs) got none = not_here s key i d xs got (or_parts (has_key key (keys_of s x.doc)) (stands_in s key xs) none).1

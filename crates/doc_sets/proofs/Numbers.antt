@@ -1,7 +1,7 @@
 -- Tests of documents by their numbers.
 use Rattle.std.proofs.Common.{◌≡◌, ℕ, zero, suc, ◌+◌, ◌<◌, Bool, true, false, not, ◌&&◌, ◌||◌, List, [], ◌∷◌, length, if◌then◌else◌, refl, arith, eq-eqb}
 use Rattle.std.specs.List.{AllByRecursion}
-use Rattle.std.proofs.lemmas.Bool.{ne_eqb}
+use Rattle.std.proofs.lemmas.Bool.{ne_eqb, or_parts}
 use Rattle.doc_value.specs.declared.schema.Schema.{Schema}
 use Rattle.doc_value.specs.declared.doc.DocField.{DocField}
 use Rattle.term_postings.specs.declared.list.Posting.{Posting}
@@ -9,10 +9,6 @@ use Rattle.split_bundle.specs.Keys.{keys_of}
 use Rattle.split_bundle.specs.declared.placed.Placed.{Placed}
 use Rattle.split_bundle.specs.Lists.{has_key, places_of, posted, posting_list, keeps_places, stands_in}
 use Rattle.doc_sets.specs.Sets.{holds_at, is_in}
-
-or_none : (a b : Bool) → (a || b) ≡ false → (a ≡ false) × (b ≡ false)
-or_none true b e = absurd (cc)
-or_none false b e = (refl, e)
 
 pub holds_and : (p q : List DocField → Bool) (ds : List Placed) (k : ℕ) → holds_at (λ d. p d && q d) ds k ≡ holds_at p ds k && holds_at q ds k
 holds_and p q [] k = refl
@@ -91,5 +87,5 @@ posting_list_below s key ds = posted_below s key 0 (length ds) ds (omega arith)
 -- a key that no document has
 pub none_holds : (s : Schema) (key : List ℕ) (ds : List Placed) (k : ℕ) → stands_in s key ds ≡ false → holds_at (λ d. has_key key (keys_of s d)) ds k ≡ false
 none_holds s key [] k h = refl
-none_holds s key (d ∷ ds) zero h = (or_none (has_key key (keys_of s d.doc)) (stands_in s key ds) h).0
-none_holds s key (d ∷ ds) (suc k) h = none_holds s key ds k (or_none (has_key key (keys_of s d.doc)) (stands_in s key ds) h).1
+none_holds s key (d ∷ ds) zero h = (or_parts (has_key key (keys_of s d.doc)) (stands_in s key ds) h).0
+none_holds s key (d ∷ ds) (suc k) h = none_holds s key ds k (or_parts (has_key key (keys_of s d.doc)) (stands_in s key ds) h).1

@@ -1,7 +1,7 @@
 -- A phrase stands in one value exactly where the places of its tokens among the keys of the document have its distances.
 use Rattle.std.proofs.Common.{◌≡◌, ℕ, zero, suc, ◌+◌, ◌-◌, ◌<◌, ◌≤◌, ◌≢◌, ◌==◌, ◌⊎◌, inl, inr, Bool, true, false, ◌&&◌, ◌||◌, List, [], ◌∷◌, ◌++◌, slice_get, Some, if◌then◌else◌, refl, ap, sym, ◌∙◌, arith, eq-eqb}
 use Rattle.std.specs.Str.{bytes_eq}
-use Rattle.std.proofs.lemmas.Bool.{cases_eq, ne_eqb, eqb-true}
+use Rattle.std.proofs.lemmas.Bool.{cases_eq, ne_eqb, eqb-true, or_cases}
 use Rattle.doc_value.specs.declared.schema.Field.{Field}
 use Rattle.doc_value.specs.declared.doc.Value.{Value}
 use Rattle.text_tokens.specs.declared.tokens.Token.{Token}
@@ -160,10 +160,6 @@ and_right : (a b : Bool) → a && b ≡ true → b ≡ true
 and_right true b h = h
 and_right false b h = absurd (cc)
 
-or_either : (a b : Bool) → a || b ≡ true → (a ≡ true) ⊎ (b ≡ true)
-or_either true b h = inl refl
-or_either false b h = inr h
-
 or_right : (a b : Bool) → b ≡ true → a || b ≡ true
 or_right true b h = refl
 or_right false b h = h
@@ -174,7 +170,7 @@ or_left false b h = absurd (cc)
 
 first_stands : (text : List ℕ) (phrase : List Token) (from : ℕ) (sub toks : List Token) → some_first text phrase from sub toks ≡ true → stands_at_one phrase from sub toks ≡ true
 first_stands text phrase from [] toks h = h
-first_stands text phrase from (q ∷ qs) toks h = go (or_either (bytes_eq q.text text && stands_at phrase q.position from toks) (some_first text phrase from qs toks) h) (first_stands text phrase from qs toks)
+first_stands text phrase from (q ∷ qs) toks h = go (or_cases (bytes_eq q.text text && stands_at phrase q.position from toks) (some_first text phrase from qs toks) h) (first_stands text phrase from qs toks)
   where
     go : ((bytes_eq q.text text && stands_at phrase q.position from toks ≡ true) ⊎ (some_first text phrase from qs toks ≡ true)) → (some_first text phrase from qs toks ≡ true → stands_at_one phrase from qs toks ≡ true)
         → stands_at phrase q.position from toks || stands_at_one phrase from qs toks ≡ true
@@ -185,7 +181,7 @@ first_stands text phrase from (q ∷ qs) toks h = go (or_either (bytes_eq q.text
 found_first : (text : List ℕ) (phrase : List Token) (from position : ℕ) (sub toks : List Token) → has_token_at text (position + from) from sub ≡ true → stands_at phrase position from toks ≡ true → some_first text phrase from sub toks ≡ true
 found_first text phrase from position [] toks h stands = h
 found_first text phrase from position (q ∷ qs) toks h stands =
-    go (or_either (bytes_eq q.text text && (q.position + from == position + from)) (has_token_at text (position + from) from qs) h) (λ e. found_first text phrase from position qs toks e stands)
+    go (or_cases (bytes_eq q.text text && (q.position + from == position + from)) (has_token_at text (position + from) from qs) h) (λ e. found_first text phrase from position qs toks e stands)
   where
     go : ((bytes_eq q.text text && (q.position + from == position + from) ≡ true) ⊎ (has_token_at text (position + from) from qs ≡ true)) → (has_token_at text (position + from) from qs ≡ true → some_first text phrase from qs toks ≡ true)
         → (bytes_eq q.text text && stands_at phrase q.position from toks) || some_first text phrase from qs toks ≡ true
@@ -199,7 +195,7 @@ found_first text phrase from position (q ∷ qs) toks h stands =
 
 stands_first : (t : Token) (ts : List Token) (sub toks : List Token) → stands_at_one (t ∷ ts) t.position sub toks ≡ true → some_first t.text (t ∷ ts) t.position toks toks ≡ true
 stands_first t ts [] toks h = absurd (cc)
-stands_first t ts (q ∷ qs) toks h = go (or_either (stands_at (t ∷ ts) q.position t.position toks) (stands_at_one (t ∷ ts) t.position qs toks) h) (stands_first t ts qs toks)
+stands_first t ts (q ∷ qs) toks h = go (or_cases (stands_at (t ∷ ts) q.position t.position toks) (stands_at_one (t ∷ ts) t.position qs toks) h) (stands_first t ts qs toks)
   where
     go : ((stands_at (t ∷ ts) q.position t.position toks ≡ true) ⊎ (stands_at_one (t ∷ ts) t.position qs toks ≡ true)) → (stands_at_one (t ∷ ts) t.position qs toks ≡ true → some_first t.text (t ∷ ts) t.position toks toks ≡ true)
         → some_first t.text (t ∷ ts) t.position toks toks ≡ true

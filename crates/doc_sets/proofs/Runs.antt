@@ -3,7 +3,7 @@ use Rattle.std.proofs.Common.{◌≡◌, ℕ, zero, suc, ◌+◌, ◌-◌, ◌<�
 use Rattle.std.specs.List.{AllByRecursion}
 use Rattle.std.proofs.lemmas.Bool.Decides.{nat_tests}
 use Rattle.std.specs.Str.{bytes_eq}
-use Rattle.std.proofs.lemmas.Bool.{ne_eqb}
+use Rattle.std.proofs.lemmas.Bool.{ne_eqb, or_cases}
 use Rattle.doc_value.specs.declared.doc.DocField.{DocField}
 use Rattle.doc_value.specs.declared.doc.Value.{Value}
 use Rattle.doc_value.specs.declared.schema.Field.{Field}
@@ -53,10 +53,6 @@ and_both : (a b : Bool) → a ≡ true → b ≡ true → a && b ≡ true
 and_both true b h k = k
 and_both false b h k = absurd (let x : false ≡ true = h in cc)
 
-or_either : (a b : Bool) → a || b ≡ true → (a ≡ true) ⊎ (b ≡ true)
-or_either true b h = inl refl
-or_either false b h = inr h
-
 -- a document with each of some tokens has any of them
 pub each_at : (n i : ℕ) (x : Token) (ts : List Token) (os : List Occurrence) → i < length ts → x ≡ get_or ts i x → has_each n ts os ≡ true → has_key (field_key n x.text) os ≡ true
 each_at n i x [] os lt e h = absurd (omega arith)
@@ -81,7 +77,7 @@ from_each n from place (t ∷ ts) os h =
 
 from_one_each : (n from : ℕ) (ts : List Token) (ps : List ℕ) (os : List Occurrence) → stands_from_one n ts from ps os ≡ true → has_each n ts os ≡ true
 from_one_each n from ts [] os h = absurd (let x : false ≡ true = h in cc)
-from_one_each n from ts (p ∷ ps) os h = go (or_either (stands_from n ts from p os) (stands_from_one n ts from ps os) h) (from_one_each n from ts ps os)
+from_one_each n from ts (p ∷ ps) os h = go (or_cases (stands_from n ts from p os) (stands_from_one n ts from ps os) h) (from_one_each n from ts ps os)
   where
     go : ((stands_from n ts from p os ≡ true) ⊎ (stands_from_one n ts from ps os ≡ true)) → (stands_from_one n ts from ps os ≡ true → has_each n ts os ≡ true) → has_each n ts os ≡ true
     go (inl e) rest = from_each n from p ts os e

@@ -1,5 +1,6 @@
 -- What is found among the leaf texts that a document lists.
 use Rattle.std.proofs.Common.{◌≡◌, ℕ, ◌<◌, ◌&&◌, ◌||◌, Bool, true, false, List, [], ◌∷◌, ◌++◌, length, length-append, map, decimal, refl, ap, sym, ◌∙◌, nat_eq, nat_le, not, if◌then◌else◌, arith}
+use Rattle.std.proofs.lemmas.Bool.{and_parts}
 use Rattle.std.proofs.lemmas.Bool.Decides.{nat_tests}
 use Rattle.std.specs.List.{AllByRecursion, list_any, starts_with}
 use Rattle.std.specs.Str.{bytes_eq}
@@ -60,10 +61,6 @@ same_bool true false f g = sym (f refl)
 same_bool false true f g = g refl
 same_bool false false f g = refl
 
-both_true : (a b : Bool) → a && b ≡ true → (a ≡ true) × (b ≡ true)
-both_true true b e = (refl, e)
-both_true false b e = absurd (let y : false ≡ true = e in cc)
-
 equal_leaves : (leaf : Leaf) (path text : List ℕ) → IsShort leaf.0 → IsShort path → bytes_eq (leaf_text leaf.0 leaf.1) (leaf_text path text) ≡ (bytes_eq path leaf.0 && bytes_eq text leaf.1)
 equal_leaves leaf path text short long = same_bool _ _
     (λ e.
@@ -72,7 +69,7 @@ equal_leaves leaf path text short long = same_bool _ _
     let two : bytes_eq text leaf.1 ≡ true = (bytes_eq-Decides text leaf.1).1 (sym same.1) in
     ap (λ b. b && bytes_eq text leaf.1) one ∙ two)
     (λ e.
-    let p = both_true (bytes_eq path leaf.0) (bytes_eq text leaf.1) e in
+    let p = and_parts (bytes_eq path leaf.0) (bytes_eq text leaf.1) e in
     let one : path ≡ leaf.0 = (bytes_eq-Decides path leaf.0).0 p.0 in
     let two : text ≡ leaf.1 = (bytes_eq-Decides text leaf.1).0 p.1 in
     (bytes_eq-Decides (leaf_text leaf.0 leaf.1) (leaf_text path text)).1 (sym (ap (λ x. leaf_text x text) one ∙ ap (leaf_text leaf.0) two)))

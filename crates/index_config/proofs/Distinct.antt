@@ -1,6 +1,6 @@
 -- Where no path is doubled, each field and object has a path of its own, also among those that are put in order.
 use Rattle.std.proofs.Common.{◌≡◌, ℕ, Bool, true, false, ◌||◌, List, [], ◌∷◌, ◌++◌, Option, Some, None, refl, sym, subst, inl, inr}
-use Rattle.std.proofs.lemmas.Bool.{cases_Bool, both_ways}
+use Rattle.std.proofs.lemmas.Bool.{cases_Bool, both_ways, or_parts}
 use Rattle.std.proofs.lemmas.Slice.Eq.{bytes_eq-Decides}
 use Rattle.std.specs.Ordering.{nat_cmp, is_lt}
 use Rattle.std.specs.Cmp.Lexicographic.{slice_cmp}
@@ -28,17 +28,13 @@ itself path = (bytes_eq-Decides path path).1 refl
 pub same-path : (a b : List ℕ) → bytes_eq a b ≡ true → a ≡ b
 same-path a b e = (bytes_eq-Decides a b).0 e
 
-pub or-none : (a b : Bool) → (a || b) ≡ false → (a ≡ false) × (b ≡ false)
-or-none true b e = absurd (cc)
-or-none false b e = (refl, e)
-
 pub or-later : (a b : Bool) → b ≡ true → (a || b) ≡ true
 or-later true b e = refl
 or-later false b e = e
 
 pub path-free : (raw : RawField) (raws : List RawField) (path : List ℕ) → has_path path (raw ∷ raws) ≡ false
     → (bytes_eq raw.path path ≡ false) × (has_path path raws ≡ false)
-path-free raw raws path e = or-none (bytes_eq raw.path path) (has_path path raws) e
+path-free raw raws path e = or_parts (bytes_eq raw.path path) (has_path path raws) e
 
 not-doubled : (b : Bool) (raw : RawField) → doubled b raw ≡ [] → b ≡ false
 not-doubled true raw e = absurd (cc)

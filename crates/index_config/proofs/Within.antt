@@ -3,7 +3,7 @@ use Rattle.std.proofs.Common.{◌≡◌, ◌≢◌, ℕ, zero, suc, Bool, true, 
 use Rattle.std.specs.Prelude.{codes}
 use Rattle.std.specs.List.{list_all}
 use Rattle.std.specs.Str.{bytes_eq}
-use Rattle.std.proofs.lemmas.Bool.{and_parts, both_ways}
+use Rattle.std.proofs.lemmas.Bool.{and_parts, both_ways, or_parts}
 use Rattle.toml.specs.Data.{Data, Items, no_items, item, get}
 use Rattle.index_config.specs.declared.config.Mode.{Mode}
 use Rattle.index_config.specs.declared.config.Mode.TheVariants as modes
@@ -12,7 +12,7 @@ use Rattle.index_config.specs.Accepted.{IsOutside}
 use Rattle.index_config.specs.Rules.{under, member_path, is_name_byte, begins_as_name, is_field_name}
 use Rattle.index_config.specs.Tables.{items_in, type_of, is_object, table_faults, mapping_path}
 use Rattle.index_config.specs.Fields.{name_of, raw_field, each_raw, inner_raws, raws_with, raw_member, in_mapping, mode_of, dynamic_path, dynamic_raws, mapped_raws, all_raws, has_path}
-use Rattle.index_config.proofs.Distinct.{itself, or-none, path-free}
+use Rattle.index_config.proofs.Distinct.{itself, path-free}
 use Rattle.index_config.proofs.Named.{HavePaths, paths-append, HaveNames, mapping-names}
 
 -- a path goes on behind another's dot
@@ -126,7 +126,7 @@ top-member (suc levels) place d named free =
 free-parts : (path : List ℕ) (xs ys : List RawField) → has_path path (xs ++ ys) ≡ false → (has_path path xs ≡ false) × (has_path path ys ≡ false)
 free-parts path [] ys h = (refl, h)
 free-parts path (x ∷ xs) ys h =
-    let parts = or-none (bytes_eq x.path path) (has_path path (xs ++ ys)) h in
+    let parts = or_parts (bytes_eq x.path path) (has_path path (xs ++ ys)) h in
     let more = free-parts path xs ys parts.1 in
     (rw parts.0 more.0, more.1)
 

@@ -1,6 +1,6 @@
 -- What the collector deletes may be deleted, and its deletes are the core's.
 use Rattle.std.proofs.Common.{◌≡◌, ℕ, ◌+◌, ◌<◌, ◌≤◌, ◌==◌, ◌&&◌, Bool, true, false, not, List, [], ◌∷◌, ◌++◌, map, Option, Some, None, Result, Ok, Err, refl, sym, ap, ◌∙◌, subst, inl, inr, arith, append-nil, nat_le, nat_lt, eq-eqb}
-use Rattle.std.proofs.lemmas.Bool.{leb-true, leb-false, ltb-true}
+use Rattle.std.proofs.lemmas.Bool.{leb-true, leb-false, ltb-true, and_parts}
 use Rattle.std.proofs.lemmas.List.Folds.{list_any-append}
 use Rattle.std.specs.List.{AllByRecursion, list_any}
 use Rattle.std.specs.Prelude.{IsErr, is_some, find, ◌||◌}
@@ -114,10 +114,6 @@ found_by P test (x ∷ list) row e all = by (test x) refl (found_by P test list 
     by true t more = let here : Some x ≡ Some row = rw t at e in let is : x ≡ row = cc here in (ap test (sym is) ∙ t, subst P is all.0)
     by false t more = let there : find test list ≡ Some row = rw t at e in more there all.1
 
-both_true : (a b : Bool) → (a && b) ≡ true → (a ≡ true) × (b ≡ true)
-both_true true b e = (refl, e)
-both_true false b e = absurd (true_is_false (sym e))
-
 marked_state : (state : RowState) → is_marked state ≡ true → state ≡ Marked
 marked_state Staged e = absurd (true_is_false (sym e))
 marked_state Published e = absurd (true_is_false (sym e))
@@ -130,8 +126,8 @@ module _ (core : Core) (config : IndexConfig) (is : configuration core.history �
       let h = history core.history in
       let f = found_by (λ x. (row_at (rows h) x.number ≡ Some x) × Was h x) (may_go core) (rows h) row e
       (AllOf-both (λ x. row_at (rows h) x.number ≡ Some x) (Was h) (rows h) (each_found (rows h) (sound reads h legal).held.apart) (rows_were h)) in
-      let a = both_true (is_marked row.state) _ f.0 in
-      let b = both_true (not (is_doomed core row.number)) _ a.1 in
+      let a = and_parts (is_marked row.state) _ f.0 in
+      let b = and_parts (not (is_doomed core row.number)) _ a.1 in
       let low : release_of (config_or (configuration core.history)).deletion_grace core.marks row ≤ core.moment = leb-true _ core.moment b.1 in
       let low_by : release_of config.deletion_grace core.marks row ≤ core.moment = subst (λ (o : Option IndexConfig). release_of (config_or o).deletion_grace core.marks row ≤ core.moment) is low in
       record {
@@ -147,8 +143,8 @@ module _ (core : Core) (config : IndexConfig) (is : configuration core.history �
   -- and so may what is swept
   pub swept_is_free : (number : ℕ) → is_swept core number ≡ true → MayFree core number
   swept_is_free number e =
-      let a = both_true (nat_lt 0 number) _ e in
-      let b = both_true (nat_lt number (last_number (history core.history) + 1)) _ a.1 in
+      let a = and_parts (nat_lt 0 number) _ e in
+      let b = and_parts (nat_lt number (last_number (history core.history) + 1)) _ a.1 in
       let some : 0 < number = ltb-true 0 number a.0 in
       let low : number < last_number (history core.history) + 1 = ltb-true number (last_number (history core.history) + 1) b.0 in
       record { config = config; configured = is; staged = numbers_were (history core.history) number legal some (omega (arith, low)); free = λ row found. absurd (gone row found b.1) }

@@ -1,5 +1,6 @@
 -- A page of a listing of split files has what is left between its keys, and nothing else.
 use Rattle.std.proofs.Common.{◌≡◌, ◌⊎◌, ℕ, Bool, true, false, ◌&&◌, not, List, [], ◌∷◌, ◌++◌, length, take, drop, Option, Some, None, refl, sym, ap, subst, ◌∙◌, append_assoc, inl, inr, arith}
+use Rattle.std.proofs.lemmas.Bool.{and_parts}
 use Rattle.std.proofs.lemmas.List.{take-append-drop, drop_all, length-take}
 use Rattle.std.proofs.lemmas.List.Elements.{Contains-push, Contains-push_cases, Contains-append_left, Contains-append_right, Contains-append_cases}
 use Rattle.std.specs.Prelude.{Contains, IfSome, IsSome, is_some}
@@ -34,10 +35,6 @@ has_contains (k ∷ keys) key (inr h) = Contains-append_right (k ∷ []) keys ke
 has_contains [] key h = absurd h
 
 -- ---- tests
-
-pub both : (a b : Bool) → (a && b) ≡ true → (a ≡ true) × (b ≡ true)
-both true b e = (refl, e)
-both false b e = absurd cc
 
 false_is : (b : Bool) → not b ≡ true → b ≡ false
 false_is true e = absurd cc
@@ -117,7 +114,7 @@ module _ (behind : Option Key) (objects : Objects) (keys : List Key) (are : keys
 
     pub all_left : (n : ℕ) → left n ≡ true → Contains keys (split_key n) × (swept n ≡ true)
     all_left n e =
-        let p = both (swept n) (there n && (is_behind behind (split_key n) && not (is_past next (split_key n)))) e in
-        let q = both (there n) (is_behind behind (split_key n) && not (is_past next (split_key n))) p.1 in
-        let r = both (is_behind behind (split_key n)) (not (is_past next (split_key n))) q.1 in
+        let p = and_parts (swept n) (there n && (is_behind behind (split_key n) && not (is_past next (split_key n)))) e in
+        let q = and_parts (there n) (is_behind behind (split_key n) && not (is_past next (split_key n))) p.1 in
+        let r = and_parts (is_behind behind (split_key n)) (not (is_past next (split_key n))) q.1 in
         (has_contains keys (split_key n) (on_page next ends n (sym (same n) ∙ q.0) r.0 (false_is (is_past next (split_key n)) r.1)), p.0)

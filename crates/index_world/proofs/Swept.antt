@@ -1,6 +1,6 @@
 -- The numbers of a page, key by key.
 use Rattle.std.proofs.Common.{◌≡◌, ℕ, ◌+◌, ◌<◌, Bool, true, ◌&&◌, not, nat_lt, List, [], ◌∷◌, ◌++◌, is_some, subst, inl, inr, arith}
-use Rattle.std.proofs.lemmas.Bool.{ltb-true}
+use Rattle.std.proofs.lemmas.Bool.{ltb-true, and_parts}
 use Rattle.std.proofs.lemmas.List.Elements.{Contains-push, Contains-push_cases, Contains-append_left}
 use Rattle.std.specs.List.{AllByRecursion}
 use Rattle.std.specs.Prelude.{Contains}
@@ -9,7 +9,6 @@ use Rattle.split_states.specs.Rows.{row_at}
 use Rattle.split_states.specs.declared.rows.Row.{Row}
 use Rattle.index_world.specs.Collecting.{is_swept_by}
 use Rattle.index_world.specs.Swept.{AreSwept}
-use Rattle.index_world.proofs.SweepPages.{both}
 
 module _ (last : ℕ) (list : List Row) where
   abbrev swept : ℕ → Bool
@@ -18,8 +17,8 @@ module _ (last : ℕ) (list : List Row) where
   -- it was staged, so it is no more than the last number
   pub swept_below : (n : ℕ) → swept n ≡ true → n < last + 1
   swept_below n e =
-      let p = both (nat_lt 0 n) (nat_lt n (last + 1) && not (is_some (row_at list n))) e in
-      let q = both (nat_lt n (last + 1)) (not (is_some (row_at list n))) p.1 in
+      let p = and_parts (nat_lt 0 n) (nat_lt n (last + 1) && not (is_some (row_at list n))) e in
+      let q = and_parts (nat_lt n (last + 1)) (not (is_some (row_at list n))) p.1 in
       ltb-true n (last + 1) q.0
 
   pub swept_none : AreSwept last list [] []

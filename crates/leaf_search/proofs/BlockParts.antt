@@ -1,7 +1,7 @@
 -- The blocks that an index gives are those that are asked for.
 use Rattle.std.proofs.Common.{◌≡◌, ℕ, zero, suc, ◌+◌, ◌-◌, ◌*◌, ◌<◌, ◌≤◌, ◌^◌, ◌⊎◌, inl, inr, Bool, true, false, not, ◌||◌, List, [], ◌∷◌, length, take, drop, nat_eq, slice_get, Option, Some, None, Result, Ok, Err, OnOk, refl, ap, sym, ◌∙◌, subst, arith, length-drop, length-take}
 use Rattle.std.specs.List.{AllByRecursion, starts_with}
-use Rattle.std.proofs.lemmas.Bool.{cases_eq, cases_lt}
+use Rattle.std.proofs.lemmas.Bool.{cases_eq, cases_lt, or_parts}
 use Rattle.doc_value.specs.declared.schema.Schema.{Schema}
 use Rattle.term_dict.specs.Bounds.{AreBlocks, AreInFront, IsBlockAt, IsBlockOf, block_terms, last_number}
 use Rattle.term_dict.specs.Chosen.{AreUpTo}
@@ -97,17 +97,13 @@ key_falls key a b h below = ap not (below_then key a b (turn (is_below key a) h)
     turn true e = refl
     turn false e = absurd (cc)
 
-or_none : (a b : Bool) → a || b ≡ false → (a ≡ false) × (b ≡ false)
-or_none true b e = absurd (cc)
-or_none false b e = (refl, e)
-
 both_none : (a b : Bool) → a ≡ false → b ≡ false → a || b ≡ false
 both_none true b h k = absurd (let x : true ≡ false = h in cc)
 both_none false b h k = k
 
 prefix_falls : (prefix : List ℕ) → Falls (λ first. is_below first prefix || starts_with nat_eq first prefix)
 prefix_falls prefix a b h below =
-    let out = or_none (is_below a prefix) (starts_with nat_eq a prefix) h in
+    let out = or_parts (is_below a prefix) (starts_with nat_eq a prefix) h in
     both_none (is_below b prefix) (starts_with nat_eq b prefix) (below_not prefix b (at_most_below prefix a b out.0 below)) (behind_prefix prefix a b out.0 out.1 below)
 
 one_number : (bytes : List ℕ) (index : List BlockStart) (terms : List Term) (key : List ℕ) (m n : Option ℕ) → IsDict bytes index terms → IsBlockOf index key m → IsBlockOf index key n → m ≡ n

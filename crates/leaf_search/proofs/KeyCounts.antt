@@ -2,7 +2,7 @@
 use Rattle.std.proofs.Common.{◌≡◌, ℕ, suc, ◌≤◌, ◌==◌, inl, Bool, true, false, not, ◌&&◌, ◌||◌, cond, List, [], ◌∷◌, length, filter, slice_get, Option, Some, None, Result, Ok, Err, MatchResult, refl, ap, sym, ◌∙◌, subst, arith}
 use Rattle.std.specs.List.{AllByRecursion, AllZip}
 use Rattle.std.specs.Option.{option_and_then, option_map_or}
-use Rattle.std.proofs.lemmas.Bool.{eqb-true}
+use Rattle.std.proofs.lemmas.Bool.{eqb-true, and_parts, or_parts}
 use Rattle.std.proofs.lemmas.Option.{slice_get_within}
 use Rattle.doc_value.specs.declared.schema.Field.{Field}
 use Rattle.doc_value.specs.declared.schema.Schema.{Schema}
@@ -122,10 +122,6 @@ module _ (s : Schema) (few : length s.fields ≤ 256) (key : List ℕ) (d : List
 
 -- ---- a request that only counts
 
-pub and_both : (a b : Bool) → a && b ≡ true → (a ≡ true) × (b ≡ true)
-and_both true b h = (refl, h)
-and_both false b h = absurd (cc)
-
 pub record OnlyCounts (s : Schema) (r : LeafRequest) (key : List ℕ) : Type 0 where
   pub wanted : r.wanted ≡ 0
   pub unlimited : is_unlimited r.times.start r.times.end ≡ true
@@ -142,8 +138,8 @@ counts s r key e = go (only_counts r) refl e
     go : (b : Bool) → only_counts r ≡ b → cond b (one_key s (view r.query)) None ≡ some key → OnlyCounts s r key
     go false is h = absurd (cc)
     go true is h =
-        let first = and_both (r.wanted == 0) (is_unlimited r.times.start r.times.end && (length r.aggs == 0)) is in
-        let second = and_both (is_unlimited r.times.start r.times.end) (length r.aggs == 0) first.1 in
+        let first = and_parts (r.wanted == 0) (is_unlimited r.times.start r.times.end && (length r.aggs == 0)) is in
+        let second = and_parts (is_unlimited r.times.start r.times.end) (length r.aggs == 0) first.1 in
         record { wanted = eqb-true r.wanted 0 first.0; unlimited = second.0; aggs = no_aggs r.aggs second.1; query = h }
 
 passes_key : (s : Schema) (r : LeafRequest) (key : List ℕ) (d : List DocField) → length s.fields ≤ 256 → IsOfSchema s d → OnlyCounts s r key → CanAsk s (view r.query) → passes s r d ≡ has_key key (keys_of s d)
@@ -152,14 +148,10 @@ passes_key s r key d few of_schema c can =
 
 -- ---- how many documents have a key
 
-or_none : (a b : Bool) → a || b ≡ false → (a ≡ false) × (b ≡ false)
-or_none true b e = absurd (cc)
-or_none false b e = (refl, e)
-
 none_posted : (s : Schema) (key : List ℕ) (n : ℕ) (ds : List Placed) → stands_in s key ds ≡ false → length (posted s key n ds) ≡ 0
 none_posted s key n [] h = refl
 none_posted s key n (d ∷ ds) h =
-    let both = or_none (has_key key (keys_of s d.doc)) (stands_in s key ds) h in
+    let both = or_parts (has_key key (keys_of s d.doc)) (stands_in s key ds) h in
     go (has_key key (keys_of s d.doc)) _ both.0 (none_posted s key (suc n) ds both.1)
   where
     go : (b : Bool) (x : Posting) → b ≡ false → length (posted s key (suc n) ds) ≡ 0 → length (cond b (x ∷ posted s key (suc n) ds) (posted s key (suc n) ds)) ≡ 0

@@ -2,7 +2,7 @@
 use Rattle.std.proofs.Common.{◌≡◌, ℕ, ◌+◌, ◌^◌, ◌≤◌, ◌<◌, Bool, true, false, cond, not, eqb, leb, ◌&&◌, List, [], ◌∷◌, ◌++◌, length, get_or, drop, Result, Ok, Err, refl, sym, ap, subst, ◌∙◌, arith, inl, inr, ◌⊎◌}
 use Rattle.std.specs.Prelude.{IfOk, nat_lt}
 use Rattle.std.proofs.lemmas.Bool.Decides.{nat_tests}
-use Rattle.std.proofs.lemmas.Bool.{lt-ltb, leb-false, ltb-true, eqb-true, eq-eqb}
+use Rattle.std.proofs.lemmas.Bool.{lt-ltb, leb-false, ltb-true, eqb-true, eq-eqb, and_parts}
 use Rattle.std.proofs.lemmas.List.{length-append, append-nil, drop_all}
 use Rattle.byte_fields.specs.declared.field_error.FieldError.TheVariants.{Short, TooLarge}
 use Rattle.byte_fields.specs.Spelling.{varint, byte_string, SpelledAt}
@@ -22,10 +22,6 @@ use Rattle.meta_journal.proofs.FieldLaws.{plain_exact, part_exact, facts_exact, 
 not_false : (b : Bool) → not b ≡ false → b ≡ true
 not_false true e = refl
 not_false false e = absurd cc
-
-both_true : (a b : Bool) → (a && b) ≡ true → (a ≡ true) × (b ≡ true)
-both_true true b e = (refl, e)
-both_true false b e = absurd cc
 
 one_false : (a b : Bool) → (not a && not b) ≡ false → (a ≡ true) ⊎ (b ≡ true)
 one_false true b e = inl refl
@@ -81,7 +77,7 @@ pick version n m false k0 k r is num low e rest = rest e
 last_kind : (version n : ℕ) (k : Kind) → cond (eqb n 9 && eqb version 2) (Ok kinds.Retire) (Err (BadKind n)) ≡ Ok k → IsKindIn version n k
 last_kind version n k e =
     let g = guard_else_ok (eqb n 9 && eqb version 2) (BadKind n) (Ok kinds.Retire) k e in
-    let p = both_true (eqb n 9) (eqb version 2) g.0 in
+    let p = and_parts (eqb n 9) (eqb version 2) g.0 in
     subst (λ (j : Kind). IsKindIn version n j) (ok_is kinds.Retire k g.1) (record { number = eqb-true n 9 p.0; known = inl (eqb-true version 2 p.1) })
 
 kind_is : (version n : ℕ) (k : Kind) → kind_of version n ≡ Ok k → IsKindIn version n k
@@ -134,9 +130,9 @@ head_takes bytes k e =
     let b = guard_ok (leb (length bytes) 3) (Field (Short (length bytes))) _ k a.1 in
     let c = guard_ok (not (eqb (get_or bytes 3 0) 1) && not (eqb (get_or bytes 3 0) 2)) (BadVersion (get_or bytes 3 0)) _ k b.1 in
     let d = guard_ok (leb (length bytes) 4) (Field (Short (length bytes))) _ k c.1 in
-    let magic = both_true _ _ (not_false (begins bytes) a.0) in
-    let m1 = both_true _ _ magic.0 in
-    let m0 = both_true _ _ m1.0 in
+    let magic = and_parts _ _ (not_false (begins bytes) a.0) in
+    let m1 = and_parts _ _ magic.0 in
+    let m0 = and_parts _ _ m1.0 in
     let long : 4 < length bytes = leb-false _ _ d.0 in
     let kind = kind_is (get_or bytes 3 0) (get_or bytes 4 0) k d.1 in
     record {

@@ -1,5 +1,6 @@
 -- The keys of a store in their order, and what a page of them leaves out.
 use Rattle.std.proofs.Common.{◌≡◌, ◌⊎◌, ℕ, zero, suc, ◌+◌, ◌^◌, ◌<◌, ◌≤◌, Bool, true, false, cond, ◌&&◌, ◌||◌, List, [], ◌∷◌, ◌++◌, map, filter, Option, Some, None, refl, sym, ap, subst, ◌∙◌, arith, inl, inr}
+use Rattle.std.proofs.lemmas.Bool.{and_parts}
 use Rattle.std.specs.Prelude.{IsSome, nat_eq, T}
 use Rattle.std.specs.List.{AllByRecursion, list_any, starts_with}
 use Rattle.std.specs.declared.cmp.Ordering.{Ordering}
@@ -68,17 +69,13 @@ less_is Less h = refl
 less_is Equal h = absurd cc
 less_is Greater h = absurd cc
 
-both_true : (a b : Bool) → (a && b) ≡ true → (a ≡ true) × (b ≡ true)
-both_true true b e = (refl, e)
-both_true false b e = absurd cc
-
 sorted_below : (a : Key) (es : List (Key × List ℕ)) → below_all order a es ≡ true → AllByRecursion (IsLess a) (map (λ e. e.0) es)
 sorted_below a [] h = tt
-sorted_below a (e ∷ es) h = let p = both_true (is_lt (order a e.0)) (below_all order a es) h in (less_is (order a e.0) p.0, sorted_below a es p.1)
+sorted_below a (e ∷ es) h = let p = and_parts (is_lt (order a e.0)) (below_all order a es) h in (less_is (order a e.0) p.0, sorted_below a es p.1)
 
 sorted_rises : (es : List (Key × List ℕ)) → is_sorted order es ≡ true → Rising (map (λ e. e.0) es)
 sorted_rises [] h = tt
-sorted_rises (e ∷ es) h = let p = both_true (below_all order e.0 es) (is_sorted order es) h in (sorted_below e.0 es p.0, sorted_rises es p.1)
+sorted_rises (e ∷ es) h = let p = and_parts (below_all order e.0 es) (is_sorted order es) h in (sorted_below e.0 es p.0, sorted_rises es p.1)
 
 truth : (b : Bool) → T b → b ≡ true
 truth true h = refl
@@ -161,7 +158,7 @@ listed_has prefix after m key some begins behind =
 pub listed_stands : (prefix : Key) (after : Option Key) (m : Objects) (key : Key) → Has (listed prefix after m) key → IsSome (finmap.get m key) × BeginsWith prefix key × (is_behind after key ≡ true)
 listed_stands prefix after m key h =
     let p = filter_has (is_wanted prefix after) (finmap.keys m) key h in
-    let q = both_true (starts_with nat_eq key prefix) (is_behind after key) p.1 in
+    let q = and_parts (starts_with nat_eq key prefix) (is_behind after key) p.1 in
     (has_stands m key p.0, q.0, q.1)
 
 -- ---- the keys of the journal behind so many entries

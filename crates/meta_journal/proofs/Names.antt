@@ -5,7 +5,7 @@ use Rattle.std.specs.List.{AllByRecursion, list_all}
 use Rattle.std.specs.Str.{IsUtf8}
 use Rattle.std.proofs.lemmas.Str.{IsUtf8-from_ascii}
 use Rattle.std.proofs.lemmas.Bool.Decides.{nat_tests}
-use Rattle.std.proofs.lemmas.Bool.{cases_lt, lt-ltb, le-leb, leb-true, ltb-true}
+use Rattle.std.proofs.lemmas.Bool.{cases_lt, lt-ltb, le-leb, leb-true, ltb-true, and_parts}
 use Rattle.std.proofs.lemmas.List.{get_or_past}
 use Rattle.std.proofs.lemmas.List.Elements.{All-from_recursion, All-get_or, recursion_from_All}
 use Rattle.byte_fields.specs.declared.field_error.FieldError.TheVariants.{NotText}
@@ -17,17 +17,13 @@ use Rattle.meta_journal.specs.Reading.{is_partition, partition_at}
 abbrev IsNameByte : ℕ → Type 0
 IsNameByte b = IsTrue (is_name_byte b)
 
-both_pass : (a b : Bool) → (a && b) ≡ true → (a ≡ true) × (b ≡ true)
-both_pass true b e = (refl, e)
-both_pass false b e = absurd cc
-
 all_pass : (xs : List ℕ) → AllByRecursion IsNameByte xs → list_all is_name_byte xs ≡ true
 all_pass [] h = refl
 all_pass (x ∷ xs) h = rw h.0 (all_pass xs h.1)
 
 each_passes : (xs : List ℕ) → list_all is_name_byte xs ≡ true → AllByRecursion IsNameByte xs
 each_passes [] h = tt
-each_passes (x ∷ xs) h = let p = both_pass (is_name_byte x) (list_all is_name_byte xs) h in (p.0, each_passes xs p.1)
+each_passes (x ∷ xs) h = let p = and_parts (is_name_byte x) (list_all is_name_byte xs) h in (p.0, each_passes xs p.1)
 
 pub partition_passes : (name : List ℕ) → IsPartition name → is_partition name ≡ true
 unfolding is_partition
@@ -40,8 +36,8 @@ partition_passes name h =
 pub partition_is : (name : List ℕ) → is_partition name ≡ true → IsPartition name
 unfolding is_partition
 partition_is name h =
-    let p = both_pass _ _ h in
-    let q = both_pass _ _ p.0 in
+    let p = and_parts _ _ h in
+    let q = and_parts _ _ p.0 in
     record {
       some = ltb-true 0 (length name) q.0;
       short = leb-true (length name) 64 q.1;

@@ -1,5 +1,6 @@
 -- Printed edges read as edges, and printed members of a set as its members.
 use Rattle.std.proofs.Common.{◌≡◌, ℕ, ◌+◌, ◌&&◌, ◌||◌, Bool, true, false, not, List, [], ◌∷◌, ◌++◌, length, Some, refl, ap, sym, ◌∙◌, arith, append_assoc, append-nil, length-append}
+use Rattle.std.proofs.lemmas.Bool.{and_parts}
 use Rattle.query_reader.specs.Kinds.{kind_of, said, names_set, is_escape_kind}
 use Rattle.query_reader.specs.Ranges.{ends_run}
 use Rattle.query_reader.specs.Machine.{run, state, State, Frame, step, go_on, span, member, InSet, InASet, InRange, After, Behind, with_operand, leaf}
@@ -57,10 +58,6 @@ abbrev pub shut : Bool → ℕ
 shut true = 93
 shut false = 125
 
-both_true : (a b : Bool) → a && b ≡ true → (a ≡ true) × (b ≡ true)
-both_true true b e = (refl, e)
-both_true false b e = absurd (let y : false ≡ true = e in cc)
-
 module _ (x : Span) (m : ℕ) (f : Frame) (fs : List Frame) where
   abbrev ranging : RangeMode → State
   ranging mode = state (InRange x m mode) f fs
@@ -78,7 +75,7 @@ module _ (x : Span) (m : ℕ) (f : Frame) (fs : List Frame) where
       → run at (ranging (Running spot q false)) (cs ++ rest) ≡ run n (ranging (Running spot q false)) rest
   run_shown [] rest spot q at n r e = ap (λ k. run k (ranging (Running spot q false)) rest) (let y : at ≡ n = omega (arith, e) in y)
   run_shown (c ∷ cs) rest spot q at n r e =
-      let b = both_true (not (ends_run (kind_of c))) (is_run cs) r in
+      let b = and_parts (not (ends_run (kind_of c))) (is_run cs) r in
       run_kind (kind_of c) c spot q false at (cs ++ rest) refl b.0 ∙ run_shown cs rest spot q (at + 1) n b.1 (omega (arith, e))
 
   begin_run : (k : Kind) (c : ℕ) (spot : Spot) (at : ℕ) (xs : List ℕ) → kind_of c ≡ k → begins_run k ≡ true

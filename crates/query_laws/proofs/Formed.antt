@@ -1,5 +1,6 @@
 -- What holds of each clause of a query, and of what is made of queries, holds of the query that is read.
 use Rattle.std.proofs.Common.{◌≡◌, ℕ, suc, ◌+◌, ◌≤◌, ◌&&◌, Bool, true, false, not, List, [], ◌∷◌, Option, Some, None, Result, Ok, Err, refl, ap, sym, ◌∙◌, subst, arith, if◌then◌else◌, slice_get}
+use Rattle.std.proofs.lemmas.Bool.{and_parts}
 use Rattle.std.specs.Str.{bytes_eq}
 use Rattle.doc_value.specs.declared.schema.Field.{Field}
 use Rattle.doc_value.specs.declared.schema.Schema.{Schema}
@@ -64,10 +65,6 @@ pub ordered_true : (b : Bool) (n : ℕ) (o : Option ℕ) → (if b then o else S
 ordered_true true n o e = (refl, e)
 ordered_true false n o e = absurd (let y : ◌≡◌ {A = Option ℕ} (Some n) None = e in cc)
 
-both_true : (a b : Bool) → a && b ≡ true → (a ≡ true) × (b ≡ true)
-both_true true b e = (refl, e)
-both_true false b e = absurd (let y : false ≡ true = e in cc)
-
 -- a number that was found is one of the fields
 number_within : (fields : List Field) (path : List ℕ) (k n : ℕ) → number_of fields path k ≡ Some n → (m : ℕ) × (n ≡ k + m) × ((f : Field) × (slice_get fields m ≡ Some f))
 number_within [] path k n e = absurd (let y : ◌≡◌ {A = Option ℕ} None (Some n) = e in cc)
@@ -87,7 +84,7 @@ module _ (schema : Schema) (defaults text : List ℕ) (W : ℕ → Type 0) (P : 
       → (done : Soughts) → Ps done → Ps (asked_after schema.fields text done a ns)
   asked_all a [] e w i b u done r = r
   asked_all a (n ∷ ns) e w i b u done r =
-      let p = both_true (indexed_at schema.fields n) (all_indexed schema.fields ns) i in
+      let p = and_parts (indexed_at schema.fields n) (all_indexed schema.fields ns) i in
       let q = first_none (bad_at schema.fields text a n) (first_bad schema.fields text a ns) b in
       let v = first_none (unplaced_at schema.fields text a n) (first_unplaced schema.fields text a ns) u in
       asked_all a ns e.1 w p.1 q.1 v.1 (and_then done (asked_at schema.fields text a n)) (rules.added done (asked_at schema.fields text a n) r (rules.asked n a e.0 w p.0 q.0 v.0))

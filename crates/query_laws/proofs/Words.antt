@@ -1,5 +1,6 @@
 -- A printed word reads as one word, and a printed quote as one quote, whatever their bytes are.
 use Rattle.std.proofs.Common.{eqb-true, ◌≡◌, ℕ, ◌+◌, ◌&&◌, ◌||◌, Bool, true, false, not, List, [], ◌∷◌, ◌++◌, length, Some, refl, ap, sym, ◌∙◌, arith, append_assoc, append-nil, nat_eq}
+use Rattle.std.proofs.lemmas.Bool.{or_parts}
 use Rattle.std.specs.Str.{bytes_eq}
 use Rattle.query_reader.specs.Kinds.{kind_of, said, names_set, ends_word, is_escape_kind}
 use Rattle.query_reader.specs.Machine.{run, state, Frame, Mode, Role, Go, step, go_on, word, span, member, InQuote, InSet, InASet, First, Fielded, After, Behind, after_quote, with_operand, leaf}
@@ -107,10 +108,6 @@ quote_hides = refl
 pub unescaped_quote : (w : List ℕ) → unescaped (hiding hides_in_quote w) ≡ w
 unescaped_quote w = unescaped_hiding hides_in_quote quote_hides w
 
-or_false : (a b : Bool) → a || b ≡ false → (a ≡ false) × (b ≡ false)
-or_false false b e = (refl, e)
-or_false true b e = absurd (let y : true ≡ false = e in cc)
-
 plain_of : (k : Kind) → not (is_plain_kind k) ≡ false → k ≡ Plain
 plain_of Plain e = refl
 plain_of _ e = absurd (let y : true ≡ false = e in cc)
@@ -121,23 +118,23 @@ unescaped_word c cs = go (is_keyword (c ∷ cs) || not (is_plain_kind (kind_of c
     go : (t : Bool) → is_keyword (c ∷ cs) || not (is_plain_kind (kind_of c)) ≡ t → unescaped (word_text (c ∷ cs)) ≡ c ∷ cs
     go true e = rw e (ap (λ xs. c ∷ xs) (unescaped_hiding hides_in_word word_hides cs))
     go false e =
-        let k : kind_of c ≡ Plain = plain_of (kind_of c) ((or_false (is_keyword (c ∷ cs)) (not (is_plain_kind (kind_of c))) e).1) in
+        let k : kind_of c ≡ Plain = plain_of (kind_of c) ((or_parts (is_keyword (c ∷ cs)) (not (is_plain_kind (kind_of c))) e).1) in
         let h : hides_in_word c ≡ false = rw k refl in
         rw e (unescaped_letter c (escaped cs) (no_backslash hides_in_word word_hides c h) ∙ ap (λ xs. c ∷ xs) (unescaped_hiding hides_in_word word_hides cs))
 
 no_keyword : (w : List ℕ) → is_keyword w ≡ false → said true w ≡ SaidWord
 unfolding said
 no_keyword w e =
-    let a = or_false (bytes_eq w (65 ∷ 78 ∷ 68 ∷ [])) (bytes_eq w (79 ∷ 82 ∷ []) || (bytes_eq w (78 ∷ 79 ∷ 84 ∷ []) || bytes_eq w (73 ∷ 78 ∷ []))) e in
-    let b = or_false (bytes_eq w (79 ∷ 82 ∷ [])) (bytes_eq w (78 ∷ 79 ∷ 84 ∷ []) || bytes_eq w (73 ∷ 78 ∷ [])) a.1 in
-    let d = or_false (bytes_eq w (78 ∷ 79 ∷ 84 ∷ [])) (bytes_eq w (73 ∷ 78 ∷ [])) b.1 in
+    let a = or_parts (bytes_eq w (65 ∷ 78 ∷ 68 ∷ [])) (bytes_eq w (79 ∷ 82 ∷ []) || (bytes_eq w (78 ∷ 79 ∷ 84 ∷ []) || bytes_eq w (73 ∷ 78 ∷ []))) e in
+    let b = or_parts (bytes_eq w (79 ∷ 82 ∷ [])) (bytes_eq w (78 ∷ 79 ∷ 84 ∷ []) || bytes_eq w (73 ∷ 78 ∷ [])) a.1 in
+    let d = or_parts (bytes_eq w (78 ∷ 79 ∷ 84 ∷ [])) (bytes_eq w (73 ∷ 78 ∷ [])) b.1 in
     rw (a.0, b.0, d.0) refl
 
 no_in : (w : List ℕ) → is_keyword w ≡ false → bytes_eq w (73 ∷ 78 ∷ []) ≡ false
 no_in w e =
-    let a = or_false (bytes_eq w (65 ∷ 78 ∷ 68 ∷ [])) (bytes_eq w (79 ∷ 82 ∷ []) || (bytes_eq w (78 ∷ 79 ∷ 84 ∷ []) || bytes_eq w (73 ∷ 78 ∷ []))) e in
-    let b = or_false (bytes_eq w (79 ∷ 82 ∷ [])) (bytes_eq w (78 ∷ 79 ∷ 84 ∷ []) || bytes_eq w (73 ∷ 78 ∷ [])) a.1 in
-    let d = or_false (bytes_eq w (78 ∷ 79 ∷ 84 ∷ [])) (bytes_eq w (73 ∷ 78 ∷ [])) b.1 in d.1
+    let a = or_parts (bytes_eq w (65 ∷ 78 ∷ 68 ∷ [])) (bytes_eq w (79 ∷ 82 ∷ []) || (bytes_eq w (78 ∷ 79 ∷ 84 ∷ []) || bytes_eq w (73 ∷ 78 ∷ []))) e in
+    let b = or_parts (bytes_eq w (79 ∷ 82 ∷ [])) (bytes_eq w (78 ∷ 79 ∷ 84 ∷ []) || bytes_eq w (73 ∷ 78 ∷ [])) a.1 in
+    let d = or_parts (bytes_eq w (78 ∷ 79 ∷ 84 ∷ [])) (bytes_eq w (73 ∷ 78 ∷ [])) b.1 in d.1
 
 plain_says : (c : ℕ) (cs : List ℕ) → is_keyword (c ∷ cs) ≡ false → said (none_hidden cs) (c ∷ escaped cs) ≡ SaidWord
 unfolding said
@@ -192,7 +189,7 @@ module _ (m : Mode) (role : Role) (at : ℕ) (f : Frame) (fs : List Frame)
     where
       go : (t : Bool) → is_keyword (c ∷ cs) || not (is_plain_kind (kind_of c)) ≡ t → WordRead m role at f fs n (word_text (c ∷ cs)) rest
       go false e =
-          let x : (is_keyword (c ∷ cs) ≡ false) × (not (is_plain_kind (kind_of c)) ≡ false) = or_false (is_keyword (c ∷ cs)) (not (is_plain_kind (kind_of c))) e in
+          let x : (is_keyword (c ∷ cs) ≡ false) × (not (is_plain_kind (kind_of c)) ≡ false) = or_parts (is_keyword (c ∷ cs)) (not (is_plain_kind (kind_of c))) e in
           let l : n ≡ at + length (c ∷ escaped cs) = rw e at hn in
           rw e (
             none_hidden cs,

@@ -2,7 +2,7 @@
 -- and a Raise that is refused may not come behind what was taken in.
 use Rattle.std.proofs.Common.{◌≡◌, ℕ, ◌<◌, ◌≤◌, ◌&&◌, Bool, true, false, List, [], ◌∷◌, find, length, option_map, sym, ap, ◌∙◌, subst, arith}
 use Rattle.std.proofs.Math.Seq.{take-length}
-use Rattle.std.proofs.lemmas.Bool.{ltb-false}
+use Rattle.std.proofs.lemmas.Bool.{ltb-false, or_parts}
 use Rattle.std.specs.List.{AllByRecursion, list_any}
 use Rattle.std.specs.Prelude.{Option, Some, None, Result, Ok, Err, IsSomeAnd, ⊤, nat_lt, option_to_list}
 use Rattle.meta_journal.specs.declared.entry.Act.TheVariants.{Raise}
@@ -32,7 +32,7 @@ use Rattle.upkeep_run.proofs.Idling.{delete_none}
 use Rattle.upkeep_run.specs.Steps.{rows_in}
 use Rattle.upkeep_run.specs.declared.work.Aim.TheVariants.{Deleting}
 use Rattle.quick_node.specs.Applies.{AllApplied, IsApplied, IsUnraised, behind_at}
-use Rattle.quick_node.proofs.MergeCalls.{answer_here, or_parts, state_refuses}
+use Rattle.quick_node.proofs.MergeCalls.{answer_here, state_refuses}
 
 -- ---- the row of a plan
 

@@ -1,7 +1,7 @@
 -- What a step of the collector leaves: it deletes the file of one number at most, whose row was not published and is marked or gone. And what its
 -- outcome comes from.
 use Rattle.std.proofs.Common.{◌≡◌, ◌⊎◌, ℕ, zero, suc, ◌+◌, ◌<◌, ◌≤◌, ◌==◌, Bool, true, false, List, [], ◌∷◌, ◌++◌, length, refl, sym, ap, ◌∙◌, subst, inl, inr, arith, eqb-true}
-use Rattle.std.proofs.lemmas.Bool.{eqb-false, leb-true}
+use Rattle.std.proofs.lemmas.Bool.{eqb-false, leb-true, and_parts}
 use Rattle.std.proofs.lemmas.List.{append-nil, length-append}
 use Rattle.std.proofs.lemmas.Slice.Eq.{bytes_eq-Decides}
 use Rattle.std.proofs.Math.Seq.{take-length}
@@ -96,10 +96,6 @@ found_row P test (x ∷ list) row e all = by (test x) refl (found_row P test lis
     by true t more = let here : Some x ≡ Some row = rw t at e in let is : x ≡ row = cc here in (ap test (sym is) ∙ t, subst P is all.0)
     by false t more = let there : find test list ≡ Some row = rw t at e in more there all.1
 
-both_true : (a b : Bool) → (a && b) ≡ true → (a ≡ true) × (b ≡ true)
-both_true true b e = (refl, e)
-both_true false b e = absurd (true_is_false (sym e))
-
 state_marked : (state : RowState) → is_marked state ≡ true → state ≡ Marked
 state_marked Staged e = absurd (true_is_false (sym e))
 state_marked Published e = absurd (true_is_false (sym e))
@@ -130,8 +126,8 @@ due : (core : Core) (row : Row) → Legal reads (history core.history) → next_
 due core row legal e =
     let h = history core.history in
     let f = found_row (λ (x : Row). row_at (rows h) x.number ≡ Some x) (may_go core) (rows h) row e (each_found (rows h) (sound reads h legal).held.apart) in
-    let a = both_true (is_marked row.state) _ f.0 in
-    let b = both_true (not (is_in core.doomed row.number)) _ a.1 in
+    let a = and_parts (is_marked row.state) _ f.0 in
+    let b = and_parts (not (is_in core.doomed row.number)) _ a.1 in
     record { found = f.1; marked = state_marked row.state a.0; released = leb-true (release_of (config_taken core).deletion_grace core.marks row) core.moment b.1 }
 
 -- a number that was staged and has no row
@@ -151,8 +147,8 @@ module _ (core : Core) (legal : Legal reads (history core.history)) (some : 0 < 
 
   gone_of : (number : ℕ) → is_swept core number ≡ true → IsGone core number
   gone_of number e =
-      let a = both_true (nat_lt 0 number) _ e in
-      let b = both_true (nat_lt number (last_number (history core.history) + 1)) _ a.1 in
+      let a = and_parts (nat_lt 0 number) _ e in
+      let b = and_parts (nat_lt number (last_number (history core.history) + 1)) _ a.1 in
       record { staged = (swept_is_free core config config_is legal number e).staged; gone = none_is (row_at (rows (history core.history)) number) b.1 }
 
   due_given_up : (row : Row) → next_doomed core ≡ Some row → IsGivenUp core.history row.number

@@ -2,7 +2,7 @@
 -- what was taken in; and the rows of a merger's plan are those that the policy chooses.
 use Rattle.std.proofs.Common.{◌≡◌, ◌⊎◌, ◌≢◌, ℕ, zero, suc, ◌+◌, ◌<◌, ◌≤◌, ◌==◌, ◌&&◌, Bool, true, false, cond, List, [], ◌∷◌, ◌++◌, length, take, option_map, max, min, refl, sym, ap, ◌∙◌, subst, inl, inr, arith, ne_eqb}
 use Rattle.std.proofs.Math.Seq.{take-length}
-use Rattle.std.proofs.lemmas.Bool.{and_from, eq-eqb, eqb-false, le-leb, le-ltb, ltb-false}
+use Rattle.std.proofs.lemmas.Bool.{and_from, eq-eqb, eqb-false, le-leb, le-ltb, ltb-false, or_parts}
 use Rattle.std.proofs.lemmas.List.{length-append}
 use Rattle.std.specs.List.{AllByRecursion}
 use Rattle.std.specs.Prelude.{◌||◌, Option, Some, None, Result, Ok, Err, IsOk, IsSomeAnd, ⊤, Contains, filter, nat_le, nat_lt, slice_get}
@@ -344,10 +344,6 @@ or_false : (a b : Bool) → a ≡ false → b ≡ false → (a || b) ≡ false
 or_false false false e f = refl
 or_false false true e f = f
 or_false true b e f = e
-
-pub or_parts : (a b : Bool) → (a || b) ≡ false → (a ≡ false) × (b ≡ false)
-or_parts false b e = (refl, e)
-or_parts true b e = absurd (false_is_true (sym e))
 
 -- none of these rows has this number
 abbrev Lacks : List Row → ℕ → Type 0

@@ -1,6 +1,6 @@
 -- A query that was read can be asked of the schema's index.
 use Rattle.std.proofs.Common.{◌≡◌, ℕ, ◌&&◌, Bool, true, false, not, nat_lt, List, [], ◌∷◌, length, map, Option, Some, None, Result, Ok, Err, refl, ap, sym, ◌∙◌, subst, if◌then◌else◌, slice_get}
-use Rattle.std.proofs.lemmas.Bool.{lt-ltb}
+use Rattle.std.proofs.lemmas.Bool.{lt-ltb, and_parts}
 use Rattle.std.specs.Option.{IfSome}
 use Rattle.doc_value.specs.Documents.{IsDynamic}
 use Rattle.doc_value.specs.declared.schema.Field.{Field}
@@ -42,10 +42,6 @@ first_none (Some n) b e = absurd (let y : ◌≡◌ {A = Option ℕ} (Some n) No
 ordered_true : (b : Bool) (n : ℕ) (o : Option ℕ) → (if b then o else Some n) ≡ None → b ≡ true
 ordered_true true n o e = refl
 ordered_true false n o e = absurd (let y : ◌≡◌ {A = Option ℕ} (Some n) None = e in cc)
-
-both_true : (a b : Bool) → a && b ≡ true → (a ≡ true) × (b ≡ true)
-both_true true b e = (refl, e)
-both_true false b e = absurd (let y : false ≡ true = e in cc)
 
 -- ---- texts of several tokens
 placed : (t p l : Bool) → not (t && (not p && l)) ≡ true → t ≡ true → l ≡ true → p ≡ true
@@ -142,7 +138,7 @@ module _ (s : Schema) (dynamic : IfSome s.dynamic (IsDynamic s.fields)) (default
       → (done : Soughts) → CanAskEach s done → CanAskEach s (asked_after s.fields text done a ns)
   after_can a [] i b u done h = h
   after_can a (n ∷ ns) i b u done h =
-      let p = both_true (indexed_at s.fields n) (all_indexed s.fields ns) i in
+      let p = and_parts (indexed_at s.fields n) (all_indexed s.fields ns) i in
       let q = first_none (bad_at s.fields text a n) (first_bad s.fields text a ns) b in
       let v = first_none (unplaced_at s.fields text a n) (first_unplaced s.fields text a ns) u in
       after_can a ns p.1 q.1 v.1 (and_then done (asked_at s.fields text a n)) (more_can s done (asked_at s.fields text a n) h (at_can s text n a p.0 q.0 v.0))

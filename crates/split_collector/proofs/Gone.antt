@@ -1,5 +1,6 @@
 -- A number that was staged and has no row gets none again, so it is still to be swept when its delete comes.
 use Rattle.std.proofs.Common.{◌≡◌, ℕ, ◌+◌, ◌≤◌, Bool, true, false, List, [], ◌∷◌, fold, map, refl, sym, ap, ◌∙◌, subst, arith}
+use Rattle.std.proofs.lemmas.Bool.{and_parts}
 use Rattle.std.proofs.lemmas.Bool.Decides.{nat_tests}
 use Rattle.std.proofs.lemmas.List.Sums.{fold-append}
 use Rattle.std.specs.Prelude.{Option, Some, None, Result, Ok, Err, ◌==◌, ◌&&◌, not, is_some, nat_lt}
@@ -79,19 +80,14 @@ gone_fold h (e ∷ es) n legal g =
 
 -- ---- in the words of the core
 
-pub both : (a b : Bool) → (a && b) ≡ true → (a ≡ true) × (b ≡ true)
-both true true e = (refl, refl)
-both true false e = absurd (cc)
-both false b e = absurd (cc)
-
 none_is : (o : Option Row) → not (is_some o) ≡ true → o ≡ None
 none_is None e = refl
 none_is (Some row) e = absurd (cc)
 
 gone_of : (h : History) (n : ℕ) → is_swept_by (last_number h) (rows h) n ≡ true → (nat_lt 0 n ≡ true) × IsGone h n
 gone_of h n e =
-    let first = both (nat_lt 0 n) (nat_lt n (last_number h + 1) && not (is_some (row_at (rows h) n))) e in
-    let second = both (nat_lt n (last_number h + 1)) (not (is_some (row_at (rows h) n))) first.1 in
+    let first = and_parts (nat_lt 0 n) (nat_lt n (last_number h + 1) && not (is_some (row_at (rows h) n))) e in
+    let second = and_parts (nat_lt n (last_number h + 1)) (not (is_some (row_at (rows h) n))) first.1 in
     (first.0, record { low = (let below = second.0 in grind (arith, nat_tests)); gone = none_is (row_at (rows h) n) second.1 })
 
 swept_of : (h : History) (n : ℕ) → nat_lt 0 n ≡ true → IsGone h n → is_swept_by (last_number h) (rows h) n ≡ true

@@ -1,5 +1,6 @@
 -- The least number of a page is the least that is left there.
 use Rattle.std.proofs.Common.{◌≡◌, ◌⊎◌, inl, inr, ℕ, zero, suc, ◌+◌, ◌≤◌, ◌<◌, min, cond, Bool, true, false, List, [], ◌∷◌, refl, sym, ap, ◌∙◌, subst, arith, Option, Some, None, fold}
+use Rattle.std.proofs.lemmas.Bool.{and_parts}
 use Rattle.std.proofs.Math.Nat.{le_refl}
 use Rattle.std.proofs.lemmas.Bool.Decides.{nat_tests}
 use Rattle.std.proofs.lemmas.List.Elements.{All-contains, All-from_recursion}
@@ -14,7 +15,6 @@ use Rattle.index_world.specs.Collecting.{IsSweepPage, is_left, is_past, is_swept
 use Rattle.index_world.specs.Core.{Core, file_at}
 use Rattle.index_world.specs.declared.tokens.SweepPage.{SweepPage}
 use Rattle.split_collector.specs.Steps.{least_left, numbers_from}
-use Rattle.split_collector.proofs.Gone.{both}
 
 -- ---- the least of some numbers
 
@@ -65,16 +65,16 @@ none_found p first (suc count) none = by (p first) refl (none_found p (suc first
 
 -- what is left is to be swept
 pub left_is_swept : (core : Core) (behind end : Option (List ℕ)) (n : ℕ) → is_left core behind end n ≡ true → is_swept core n ≡ true
-left_is_swept core behind end n e = (both (is_swept core n) (is_some (file_at core.files (split_key n)) && (is_behind behind (split_key n) && not (is_past end (split_key n)))) e).0
+left_is_swept core behind end n e = (and_parts (is_swept core n) (is_some (file_at core.files (split_key n)) && (is_behind behind (split_key n) && not (is_past end (split_key n)))) e).0
 
 -- and was staged
 pub in_range : (core : Core) (behind end : Option (List ℕ)) (n : ℕ) → is_left core behind end n ≡ true → (1 ≤ n) × (n < 1 + last_number (history core.history))
 in_range core behind end n e =
     let last = last_number (history core.history) in
     let gone : Bool = not (is_some (row_at (rows (history core.history)) n)) in
-    let swept = both (nat_lt 0 n) (nat_lt n (last + 1) && gone) (left_is_swept core behind end n e) in
+    let swept = and_parts (nat_lt 0 n) (nat_lt n (last + 1) && gone) (left_is_swept core behind end n e) in
     let some : nat_lt 0 n ≡ true = swept.0 in
-    let below : nat_lt n (last + 1) ≡ true = (both (nat_lt n (last + 1)) gone swept.1).0 in
+    let below : nat_lt n (last + 1) ≡ true = (and_parts (nat_lt n (last + 1)) gone swept.1).0 in
     (grind (arith, nat_tests), grind (arith, nat_tests))
 
 -- the least number of a page is to be swept

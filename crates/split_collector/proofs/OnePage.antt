@@ -1,5 +1,6 @@
 -- Where all calls are calm, a step comes to the same wherever the pages of its sweep end.
 use Rattle.std.proofs.Common.{◌≡◌, ◌⊎◌, inl, inr, ℕ, zero, suc, ◌+◌, ◌*◌, ◌^◌, ◌≤◌, ◌<◌, min, Bool, true, false, cond, List, [], ◌∷◌, length, refl, sym, ap, ◌∙◌, subst, arith, Option, Some, None, Result, Ok, Err}
+use Rattle.std.proofs.lemmas.Bool.{and_parts}
 use Rattle.std.specs.Cmp.Lexicographic.{slice_cmp}
 use Rattle.std.specs.List.{AllByRecursion}
 use Rattle.std.specs.Ordering.{is_lt, nat_cmp}
@@ -18,7 +19,7 @@ use Rattle.split_collector.specs.Outcomes.{Doomed, Outcome, Nothing, Swept}
 use Rattle.split_collector.specs.Steps.{IsCalm, CollectorLuck, Stand, alone, called, calm_luck, end_at, ends_behind, failed_with, first_end, least_left, max_calls, numbers_from, other_ends, outcomes, stand, step_collector, stepped, turned}
 use Rattle.split_collector.specs.Turns.{Turn, behind_delete, behind_doom, counted, ended, next_behind, page_turn, paging, to_doom, to_list, to_mark, to_remove, to_sweep}
 use Rattle.split_collector.proofs.Alone.{ended_stays}
-use Rattle.split_collector.proofs.Gone.{both, swept_history}
+use Rattle.split_collector.proofs.Gone.{swept_history}
 use Rattle.split_collector.proofs.Idling.{none_left}
 use Rattle.split_collector.proofs.Least.{found, in_range, left_is_swept}
 
@@ -94,9 +95,9 @@ there core behind end n e =
     let stands = is_some (file_at core.files (split_key n)) in
     let starts = is_behind behind (split_key n) in
     let ends = not (is_past end (split_key n)) in
-    let one = both (is_swept core n) (stands && (starts && ends)) e in
-    let two = both stands (starts && ends) one.1 in
-    let three = both starts ends two.1 in
+    let one = and_parts (is_swept core n) (stands && (starts && ends)) e in
+    let two = and_parts stands (starts && ends) one.1 in
+    let three = and_parts starts ends two.1 in
     record { swept = one.0; stands = two.0; behind_is = three.0; not_past = three.1 }
 
 all_true : (a b c d : Bool) → a ≡ true → b ≡ true → c ≡ true → d ≡ true → (a && (b && (c && d))) ≡ true
