@@ -9,7 +9,8 @@ use Rattle.doc_value.specs.declared.schema.Kind.{Kind}
 use Rattle.doc_value.specs.declared.schema.Kind.TheVariants as kinds
 use Rattle.doc_value.specs.Documents.{IsOfKind, HasGoodCount}
 use Rattle.agg_model.specs.Counting.{step_of, whole}
-use Rattle.fast_fields.specs.Columns.{AreEntries, IsNumber, cells_of, turned}
+use Rattle.fast_fields.specs.Columns.{AreEntries, IsNumber, cells_of}
+use Rattle.doc_value.specs.Terms.{turned}
 use Rattle.fast_fields.specs.declared.entries.Entry.{Entry}
 use Rattle.split_bundle.specs.Held.{IsHeldValue}
 use Rattle.doc_tallies.specs.Marks.{IsSingle, unturned, whole_number, whole_there}

@@ -13,7 +13,8 @@ use Rattle.doc_value.specs.declared.doc.Value.{Value}
 use Rattle.doc_value.specs.declared.doc.Value.TheVariants as values
 use Rattle.doc_value.specs.declared.doc.DocField.{DocField}
 use Rattle.doc_value.specs.Documents.{IsTimestamp, HasGoodCount}
-use Rattle.fast_fields.specs.Columns.{cells_of, AreEntries, turned}
+use Rattle.fast_fields.specs.Columns.{cells_of, AreEntries}
+use Rattle.doc_value.specs.Terms.{turned}
 use Rattle.fast_fields.specs.Readers.{IsOf, first_number}
 use Rattle.fast_fields.specs.declared.column.Column.{Column}
 use Rattle.fast_fields.specs.declared.entries.Entry.{Entry}

@@ -4,7 +4,8 @@ ghost use Rattle.std.specs.Prelude.{◌≡◌, ◌<◌, ◌++◌, ◌∷◌, [],
 ghost use Rattle.std.specs.List.{AllByRecursion};
 ghost use Rattle.byte_fields.specs.Spelling.{zigzag};
 ghost use Rattle.doc_value.specs.Documents.{AreOfKind, IsOfKind};
-ghost use Rattle.fast_fields.specs.Columns.{IsNumber, turned};
+ghost use Rattle.fast_fields.specs.Columns.{IsNumber};
+ghost use Rattle.doc_value.specs.Terms.{turned};
 ghost use Rattle.fast_fields.specs.Readers.{Holds, IsOf};
 ghost use Rattle.fast_fields.specs.declared.entries.Entry.{Entry};
 ghost use Rattle.query_ast.specs.Meaning.{values_in};

@@ -1,7 +1,7 @@
 -- Which lists of fields are a schema, and which documents are of a schema.
-use Rattle.std.specs.Prelude.{◌≡◌, ℕ, suc, nat_eq, true, false, ◌<◌, ◌≤◌, List, [], ◌∷◌, ◌++◌, length, take, drop, slice_get, if◌then◌else◌, IfSome, MatchOption, Option, Some, None}
+use Rattle.std.specs.Prelude.{◌≡◌, ◌≢◌, ℕ, suc, nat_eq, true, false, ◌<◌, ◌≤◌, List, [], ◌∷◌, ◌++◌, length, take, drop, slice_get, if◌then◌else◌, IfSome, MatchOption, Option, Some, None}
 use Rattle.std.specs.Ordering.{nat_cmp}
-use Rattle.std.specs.Str.{bytes_eq}
+use Rattle.std.specs.Str.{bytes_eq, IsUtf8}
 use Rattle.std.specs.Cmp.Lexicographic.{slice_cmp}
 use Rattle.std.specs.declared.cmp.Ordering.TheVariants.{Less}
 use Rattle.doc_value.specs.declared.schema.Field.{Field}
@@ -26,6 +26,15 @@ abbrev pub PathsRise : List Field → Type 0
 PathsRise [] = Unit {0}
 PathsRise (f ∷ []) = Unit {0}
 PathsRise (f ∷ g ∷ fs) = IsBefore f.path g.path × PathsRise (g ∷ fs)
+
+-- each path is a text with at least one byte
+abbrev pub AreNamed : List Field → Type 0
+AreNamed fields = (n : ℕ) (f : Field) → slice_get fields n ≡ Some f → IsUtf8 f.path × (f.path ≢ [])
+
+-- each of these is the number of a field
+abbrev pub AreNumbers : List Field → List ℕ → Type 0
+AreNumbers fields [] = Unit {0}
+AreNumbers fields (n ∷ ns) = (n < length fields) × AreNumbers fields ns
 
 -- the timestamp field is a fast field of datetimes
 abbrev pub IsTimestamp : List Field → ℕ → Type 0

@@ -4,6 +4,7 @@ use Rattle.std.specs.List.{flat_map, AllByRecursion}
 use Rattle.std.specs.Ordering.{is_lt, nat_cmp}
 use Rattle.std.specs.Cmp.Lexicographic.{slice_cmp}
 use Rattle.byte_fields.specs.Spelling.{varint, byte_string, four, eight}
+use Rattle.doc_value.specs.Terms.{turned}
 use Rattle.doc_value.specs.declared.doc.Value.{Value}
 use Rattle.doc_value.specs.declared.doc.Value.TheVariants as values
 use Rattle.doc_value.specs.declared.schema.Kind.{Kind}
@@ -25,11 +26,6 @@ cells_of document vs = map (λ v. record { document = document; value = v }) vs
 -- each value of each document, in order
 abbrev pub cells : List ColumnRow → List Cell
 cells rows = flat_map (λ r. cells_of r.document r.values) rows
-
--- a signed number with the top one of its 64 bits turned
-abbrev pub turned : ℤ → ℕ
-turned (pos n) = n + 2 ^ 63
-turned (negsuc n) = 2 ^ 63 - 1 - n
 
 -- a value stands for a number: a text for its place among the texts
 abbrev pub IsNumber : List (List ℕ) → Value → ℕ → Type 0

@@ -1,11 +1,11 @@
 ghost use Rattle.std.specs.Prelude.{◌≡◌, ◌<◌, ◌≤◌, ◌^◌, ◌+◌, List, ℕ, length, slice_get, Some, IfOk, ◌++◌, [], ◌∷◌, Contains, vec_len, vec_capacity};
 ghost use Rattle.std.specs.List.{AllByRecursion};
-ghost use Rattle.fast_fields.specs.Columns.{AreEntries, IsNumber, RowsRise, DocumentsRise, TextsRise, Fits, Cell, cells, cells_of, AreGrown, turned};
+ghost use Rattle.fast_fields.specs.Columns.{AreEntries, IsNumber, RowsRise, DocumentsRise, TextsRise, Fits, Cell, cells, cells_of, AreGrown};
 ghost use Rattle.fast_fields.specs.Texts.{EachIsAmong, texts_in};
 
 use crate::ColumnRow;
 use crate::texts::ordinal;
-use doc_value::Value;
+use doc_value::{Value, turned};
 use std::alloc::{AllocError, Global};
 
 /// A value of a column: its document and a number. A U64 is itself, a signed value is `turned`, a truth is 0 or 1, a text is its ordinal.
@@ -106,14 +106,4 @@ fn number_of(value: &Value, texts: &[&str]) -> u64
         Value::Bool(truth) => u64::from(*truth),
         Value::Datetime(seconds) => turned(*seconds),
     }
-}
-
-/// A signed number with the top one of its 64 bits turned, so that the numbers rise as the signed ones do: what a column has of an I64 or a datetime.
-pub fn turned(number: i64) -> u64
-    ensures { result ≡ turned number }
-{
-    if number >= 0 {
-        return number as u64 + (1 << 63);
-    }
-    (1 << 63) - 1 - (-(number + 1)) as u64
 }

@@ -10,6 +10,6 @@ mod texts;
 
 pub use column::Column;
 pub use encode::{encode_column, put_column};
-pub use entries::{Entry, turned};
+pub use entries::Entry;
 pub use rows::{ColumnList, ColumnRow};
 pub use texts::{distinct, ordinal};

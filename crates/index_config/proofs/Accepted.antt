@@ -2,13 +2,13 @@
 use Rattle.std.proofs.Common.{◌≡◌, ℕ, List, [], ◌∷◌, ◌++◌, length, Option, Some, None, Ok, refl, subst}
 use Rattle.std.specs.Prelude.{codes}
 use Rattle.toml.specs.Data.{Data, Items}
-use Rattle.doc_value.specs.Documents.{IsSchema}
+use Rattle.doc_value.specs.Documents.{IsSchema, AreNumbers, AreNamed}
 use Rattle.index_config.specs.declared.config.IndexConfig.{IndexConfig}
 use Rattle.index_config.specs.declared.config.Mode.TheVariants as modes
 use Rattle.index_config.specs.declared.config_error.ConfigError.{ConfigError}
 use Rattle.index_config.specs.declared.raw.RawField.{RawField}
 use Rattle.index_config.specs.declared.raw.Purpose.TheVariants as purposes
-use Rattle.index_config.specs.Accepted.{AreNumbers, AreNamed, BeginPlain, AreTags, AreTextFields, HoldsUnmapped, AreOutside, IsOutside}
+use Rattle.index_config.specs.Accepted.{BeginPlain, AreTags, AreTextFields, HoldsUnmapped, AreOutside, IsOutside}
 use Rattle.index_config.specs.Answer.{config_answer, root_of, read_answer, config_faults, first_answer}
 use Rattle.index_config.specs.Tables.{table_faults, items_in}
 use Rattle.index_config.specs.Fields.{all_raws, whole_faults, config_of, duplicate_faults, field_count, count_faults, timestamp_faults, timestamp_path, has_retention, unbuilt_faults, reference_faults, tags_path, defaults_path, search_list, mode_of, dynamic_raws, mapped_raws, in_mapping, in_order, schema_of}

@@ -21,7 +21,8 @@ use Rattle.index_config.specs.declared.config_error.ConfigError.{ConfigError}
 use Rattle.index_config.specs.Rules.{under, member_path, is_name_byte, is_name_start, begins_as_name, is_field_name, wrong_unless, text_faults, scalar_faults, items_faults, list_faults}
 use Rattle.index_config.specs.Tables.{unknown_faults, members_in, asked, asked_value, required, optional, list_of, mappings_ask, text_in, items_in, type_of, is_object, field_faults, field_value_faults, field_note_faults, each_fault, inner_fields, member_at, fields_faults, where_table, optional_table, top_faults, mapping_faults, mapping_path, indexing_faults, indexing_path, search_faults, search_path, retention_faults, retention_path, upkeep_faults, upkeep_path, table_faults}
 use Rattle.index_config.specs.Fields.{name_of, each_raw, inner_raws, raws_with, raw_member, in_option, in_mapping, mode_of, dynamic_path, dynamic_raws, mapped_raws, all_raws, placed, sorted_by, in_order, field_of, fields_of}
-use Rattle.index_config.specs.Accepted.{AreNamed, BeginsPlain, BeginPlain}
+use Rattle.index_config.specs.Accepted.{BeginsPlain, BeginPlain}
+use Rattle.doc_value.specs.Documents.{AreNamed}
 use Rattle.index_config.proofs.Distinct.{both-empty}
 
 abbrev IsNamed : List ℕ → Type 0

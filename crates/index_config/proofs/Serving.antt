@@ -9,14 +9,14 @@ use Rattle.toml.specs.Data.{Items, no_items, item, as_str}
 use Rattle.doc_value.specs.declared.schema.Field.{Field}
 use Rattle.doc_value.specs.declared.schema.Kind.{Kind}
 use Rattle.doc_value.specs.declared.schema.Kind.TheVariants as kinds
-use Rattle.doc_value.specs.Documents.{IsTimestamp, number_from, number_of}
+use Rattle.doc_value.specs.Documents.{IsTimestamp, number_from, number_of, AreNumbers}
 use Rattle.doc_value.specs.declared.schema.Tokenizer.{Tokenizer}
 use Rattle.doc_value.specs.declared.schema.Tokenizer.TheVariants as tokenizers
 use Rattle.index_config.specs.Rules.{member_path}
 use Rattle.index_config.specs.declared.raw.RawField.{RawField}
 use Rattle.index_config.specs.declared.raw.Purpose.{Purpose}
 use Rattle.index_config.specs.declared.raw.Purpose.TheVariants as purposes
-use Rattle.index_config.specs.Accepted.{AreNumbers, AreTags, IsTagKind, AreTextFields, IsTextKind}
+use Rattle.index_config.specs.Accepted.{AreTags, IsTagKind, AreTextFields, IsTextKind}
 use Rattle.index_config.specs.Fields.{has_path, is_date_kind, can_serve, is_text_kind, is_tag_kind, has_such, has_text, is_word, reference_by, serves, reference_faults, timestamp_faults, placed, sorted_by, in_order, field_of, fields_of, number_named, numbers_of}
 use Rattle.index_config.proofs.Distinct.{AreDistinct, both-empty, itself, same-path, path-free}
 

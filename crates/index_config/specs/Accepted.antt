@@ -13,15 +13,6 @@ use Rattle.index_config.specs.declared.config.Policy.{Policy}
 use Rattle.index_config.specs.declared.config.Policy.TheVariants as policies
 use Rattle.index_config.specs.declared.config.IndexConfig.{IndexConfig}
 
--- each of these is the number of a field
-abbrev pub AreNumbers : List Field → List ℕ → Type 0
-AreNumbers fields [] = Unit {0}
-AreNumbers fields (n ∷ ns) = (n < length fields) × AreNumbers fields ns
-
--- each path is a text with at least one byte
-abbrev pub AreNamed : List Field → Type 0
-AreNamed fields = (n : ℕ) (f : Field) → slice_get fields n ≡ Some f → IsUtf8 f.path × (f.path ≢ [])
-
 -- no path begins with a dot
 abbrev pub BeginsPlain : List ℕ → Type 0
 BeginsPlain [] = Unit {0}

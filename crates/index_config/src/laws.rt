@@ -1,8 +1,8 @@
 // Laws of accepted configurations, over the definitions alone.
 
 ghost use Rattle.std.specs.Prelude.{◌≡◌, ℕ, List, Ok, length};
-ghost use Rattle.doc_value.specs.Documents.{IsSchema};
-ghost use Rattle.index_config.specs.Accepted.{AreNamed, AreNumbers, AreOutside, AreTags, AreTextFields, BeginPlain, HasRanges, HoldsUnmapped};
+ghost use Rattle.doc_value.specs.Documents.{IsSchema, AreNamed, AreNumbers};
+ghost use Rattle.index_config.specs.Accepted.{AreOutside, AreTags, AreTextFields, BeginPlain, HasRanges, HoldsUnmapped};
 ghost use Rattle.index_config.specs.Answer.{config_answer};
 ghost use Rattle.index_config.specs.declared.config.IndexConfig.{IndexConfig};
 ghost use Rattle.index_config.specs.declared.config.Mode.TheVariants as modes;

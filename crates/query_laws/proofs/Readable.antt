@@ -24,8 +24,7 @@ use Rattle.query_reader.specs.Texts.{unescaped, unescaped_from, text_at, run_at}
 use Rattle.query_reader.specs.Grammar.{Letters, no_letter, letter, escaped_letter, Word, Asks, a_word, a_prefix, a_quote, Items, no_item, item_blank, item_word, item_quoted, Specials, any_value, a_range, compared, a_set, IsQuery, span, member}
 use Rattle.query_reader.specs.Resolve.{resolve, asked_at, asked_of, leaf_item, leaf_clause, and_then, indexed_at, bad_at, bad_value, bad_bound, bad_range, bad_members, unplaced_at, unplaced, unplaced_members, is_unplaced, place_unless, edge_of, edge_with, range_of, item_of, number_of, member_byte}
 use Rattle.query_ast.specs.Queries.{has_order}
-use Rattle.query_reader.specs.Printed.{AreNamed}
-use Rattle.doc_value.specs.Documents.{PathsRise, IsBefore, IsDynamic}
+use Rattle.doc_value.specs.Documents.{PathsRise, IsBefore, IsDynamic, AreNamed}
 use Rattle.doc_value.proofs.Finding.{rise-between}
 use Rattle.std.proofs.lemmas.Map.Text.{is_eq-slice_cmp}
 use Rattle.std.specs.Ordering.{is_eq}

@@ -7,7 +7,7 @@ use Rattle.std.specs.Option.{IfSome, option_map_or}
 use Rattle.std.specs.Str.{bytes_eq}
 use Rattle.jiff.specs.Types.{DateTime}
 use Rattle.clock_time.specs.Datetimes.{IsShownAt, IsTimestampSecond, civil_text}
-use Rattle.doc_value.specs.Documents.{PathsRise, IsDynamic}
+use Rattle.doc_value.specs.Documents.{AreNamed, AreNumbers, IsDynamic, PathsRise}
 use Rattle.doc_value.specs.declared.schema.Field.{Field}
 use Rattle.doc_value.specs.declared.schema.Schema.{Schema}
 use Rattle.doc_value.specs.declared.doc.Value.{Value}
@@ -187,15 +187,6 @@ abbrev mutual
   pub nesting_all : Soughts → ℕ
   nesting_all no_more = 0
   nesting_all (more q qs) = max (bracket_depth q + nesting q) (nesting_all qs)
-
--- each path is a text with at least one byte
-abbrev pub AreNamed : List Field → Type 0
-AreNamed fields = (n : ℕ) (f : Field) → slice_get fields n ≡ Some f → IsUtf8 f.path × (f.path ≢ [])
-
--- each number is a field's
-abbrev pub AreNumbers : List Field → List ℕ → Type 0
-AreNumbers fields [] = Unit {0}
-AreNumbers fields (n ∷ ns) = (n < length fields) × AreNumbers fields ns
 
 -- a query over a schema and some default fields, as a text gives it, and a text that is printed of it
 pub record IsPrintedOf (schema : Schema) (defaults text : List ℕ) (q : Sought) (shown : List ℕ) : Type 0 where

@@ -7,8 +7,8 @@ ghost use Rattle.fast_fields.specs.Columns.{Cell, cells_of};
 ghost use Rattle.split_build.specs.HeldColumns.{HasCells, IsNumbered, texts_of};
 
 use crate::occurrences::values_in;
-use doc_value::{DocField, Value};
-use fast_fields::{Entry, turned};
+use doc_value::{DocField, Value, turned};
+use fast_fields::Entry;
 use indexmap::IndexSet;
 use std::alloc::{AllocError, Global};
 

@@ -7,7 +7,8 @@ use Rattle.doc_value.specs.declared.doc.Value.TheVariants as values
 use Rattle.doc_value.specs.declared.schema.Kind.{Kind}
 use Rattle.fast_fields.specs.declared.rows.ColumnRow.{ColumnRow}
 use Rattle.fast_fields.specs.declared.entries.Entry.{Entry}
-use Rattle.fast_fields.specs.Columns.{Cell, cells, turned, numbers, least_of, greatest_of, has_texts, texts_bytes, documents_bytes}
+use Rattle.fast_fields.specs.Columns.{Cell, cells, numbers, least_of, greatest_of, has_texts, texts_bytes, documents_bytes}
+use Rattle.doc_value.specs.Terms.{turned}
 use Rattle.split_bundle.specs.Documents.{place_among}
 use Rattle.split_form.specs.Sorted.{sorted}
 use Rattle.split_form.specs.Packing.{width_of, packed}

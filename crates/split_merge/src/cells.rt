@@ -9,7 +9,8 @@ ghost use Rattle.split_merge.specs.Facts.{HaveColumns};
 ghost use Rattle.split_merge.specs.Lent.{Gains, value_of};
 
 use crate::lent::LentValue;
-use fast_fields::{Entry, turned};
+use doc_value::turned;
+use fast_fields::Entry;
 use indexmap::IndexSet;
 use split_build::{ColumnLog, text_place};
 use std::alloc::{AllocError, Global};

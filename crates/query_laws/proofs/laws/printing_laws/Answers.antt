@@ -3,7 +3,8 @@ use Rattle.doc_value.specs.declared.schema.Field.{Field}
 use Rattle.doc_value.specs.declared.schema.Schema.{Schema}
 use Rattle.query_ast.specs.Sought.{Sought}
 use Rattle.query_reader.specs.Machine.{reads}
-use Rattle.query_reader.specs.Printed.{AreNumbers, IsPrintedOf}
+use Rattle.query_reader.specs.Printed.{IsPrintedOf}
+use Rattle.doc_value.specs.Documents.{AreNumbers}
 use Rattle.query_reader.specs.Resolve.{resolve}
 use Rattle.query_reader.specs.Tree.{Tree}
 use Rattle.query_reader.specs.declared.fault.Fault.{Fault}
