@@ -12,7 +12,8 @@ use Rattle.std.specs.Option.{IfSome}
 use Rattle.std.specs.Ordering.{int_cmp}
 use Rattle.doc_value.specs.declared.doc.DocField.{DocField}
 use Rattle.doc_value.specs.declared.doc.Value.{Value}
-use Rattle.agg_model.specs.Counting.{Slot, text, signed, unsigned, truth, datetime, slot_of, same_slot, values_in, has_value, value_count}
+use Rattle.agg_model.specs.Counting.{Slot, text, signed, unsigned, truth, datetime, slot_of, same_slot, has_value, value_count}
+use Rattle.doc_value.specs.Documents.{values_in}
 use Rattle.agg_model.specs.Tallies.{raised}
 use Rattle.agg_model.specs.Partials.{IsSlotOfValue, IsTally, IsStep, IsPart, AreRaised, IsCollected, tally_at, tallied, in_step}
 use Rattle.agg_model.specs.declared.counts.Counts.{Counts}

@@ -5,14 +5,10 @@ use Rattle.std.specs.List.{list_any}
 use Rattle.std.specs.Option.{option_map_or, option_and_then}
 use Rattle.std.specs.Ordering.{int_eq}
 use Rattle.std.specs.Str.{bytes_eq}
+use Rattle.doc_value.specs.Documents.{values_in}
 use Rattle.doc_value.specs.declared.doc.Value.{Value}
 use Rattle.doc_value.specs.declared.doc.Value.TheVariants as values
 use Rattle.doc_value.specs.declared.doc.DocField.{DocField}
-
--- a document's values of the field with this number
-abbrev pub values_in : List DocField → ℕ → List Value
-values_in [] number = []
-values_in (f ∷ fs) number = if f.number == number then f.values else values_in fs number
 
 -- 0 is false and 1 is true
 abbrev pub truth_number : Bool → ℤ

@@ -4,7 +4,8 @@ ghost use Rattle.std.specs.Prelude.{◌≡◌, ◌+◌, ◌^◌, ◌<◌, ◌≤
 ghost use Rattle.std.specs.Int.RustNames.{unsigned_abs};
 ghost use Rattle.std.specs.Option.{option_map};
 ghost use Rattle.agg_model.specs.Checking.{HasInterval};
-ghost use Rattle.agg_model.specs.Counting.{values_in, whole, step_of, first_whole};
+ghost use Rattle.agg_model.specs.Counting.{whole, step_of, first_whole};
+ghost use Rattle.doc_value.specs.Documents.{values_in};
 ghost use Rattle.agg_model.specs.Partials.{IsNear, IsPart, IsCollected};
 
 use crate::counts::Counts;

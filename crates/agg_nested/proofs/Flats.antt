@@ -12,7 +12,8 @@ use Rattle.doc_value.specs.declared.doc.DocField.{DocField}
 use Rattle.agg_metrics.specs.Metrics.{IsMetricOf, HasRoom}
 use Rattle.agg_metrics.specs.declared.metric_part.MetricPart.{MetricPart}
 use Rattle.agg_metrics.proofs.Sums.{has_room}
-use Rattle.agg_model.specs.Counting.{values_in, first_whole}
+use Rattle.agg_model.specs.Counting.{first_whole}
+use Rattle.doc_value.specs.Documents.{values_in}
 use Rattle.agg_model.specs.Partials.{IsPartialOf, StandsFor}
 use Rattle.agg_model.specs.declared.partial.Partial.{Partial}
 use Rattle.agg_model.specs.declared.request.NamedAgg.{NamedAgg}

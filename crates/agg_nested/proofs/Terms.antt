@@ -10,7 +10,8 @@ use Rattle.std.proofs.lemmas.List.Sorted.{sorted_far, sum_by-IsPermutation}
 use Rattle.std.proofs.lemmas.List.Sums.{sum_by-remove}
 use Rattle.doc_value.specs.declared.doc.Value.{Value}
 use Rattle.agg_model.specs.Answers.{AreCounted, rank}
-use Rattle.agg_model.specs.Counting.{has_value, is_same, value_count, values_in}
+use Rattle.agg_model.specs.Counting.{has_value, is_same, value_count}
+use Rattle.doc_value.specs.Documents.{values_in}
 use Rattle.agg_model.specs.declared.ranking.ValueCount.{ValueCount}
 use Rattle.agg_model.proofs.Order.{rank_order}
 use Rattle.agg_nested.specs.Terms.{counted, ranks_before, terms_of, values_of}

@@ -5,7 +5,8 @@ use Rattle.std.specs.Option.{option_to_list}
 use Rattle.doc_value.specs.declared.doc.DocField.{DocField}
 use Rattle.agg_metrics.specs.Metrics.{total, least_of, greatest_of}
 use Rattle.agg_model.specs.Answers.{most_buckets}
-use Rattle.agg_model.specs.Counting.{values_in, first_whole}
+use Rattle.agg_model.specs.Counting.{first_whole}
+use Rattle.doc_value.specs.Documents.{values_in}
 use Rattle.agg_model.specs.declared.agg_error.AggError.{AggError}
 use Rattle.agg_model.specs.declared.agg_error.AggError.TheVariants as refusals
 use Rattle.agg_nested.specs.CountedAnswers.{answer_of}

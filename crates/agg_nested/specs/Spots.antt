@@ -4,7 +4,8 @@ use Rattle.std.specs.List.{list_any}
 use Rattle.std.specs.Option.{option_map, option_map_or, option_to_list}
 use Rattle.std.specs.Ordering.{int_eq}
 use Rattle.doc_value.specs.declared.doc.DocField.{DocField}
-use Rattle.agg_model.specs.Counting.{Slot, slot_of, same_slot, values_in, first_whole, step_of}
+use Rattle.agg_model.specs.Counting.{Slot, slot_of, same_slot, first_whole, step_of}
+use Rattle.doc_value.specs.Documents.{values_in}
 use Rattle.agg_model.specs.declared.answer.AggAnswer.{AggAnswer}
 use Rattle.agg_model.specs.declared.answer.AggAnswer.TheVariants as counted
 use Rattle.agg_model.specs.declared.answer.Key.{Key}

@@ -6,7 +6,8 @@ use Rattle.doc_value.specs.declared.doc.Value.{Value}
 use Rattle.doc_value.specs.declared.doc.DocField.{DocField}
 use Rattle.agg_model.specs.Answers.{rank, value_bucket}
 use Rattle.agg_nested.specs.Ordered.{ordered}
-use Rattle.agg_model.specs.Counting.{values_in, value_count}
+use Rattle.agg_model.specs.Counting.{value_count}
+use Rattle.doc_value.specs.Documents.{values_in}
 use Rattle.agg_model.specs.declared.answer.AggAnswer.{AggAnswer}
 use Rattle.agg_model.specs.declared.answer.AggAnswer.TheVariants as answers
 use Rattle.agg_model.specs.declared.ranking.ValueCount.{ValueCount}

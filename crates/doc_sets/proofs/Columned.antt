@@ -11,7 +11,7 @@ use Rattle.doc_value.specs.declared.schema.Schema.{Schema}
 use Rattle.doc_value.specs.declared.doc.DocField.{DocField}
 use Rattle.doc_value.specs.declared.doc.Value.{Value}
 use Rattle.doc_value.specs.declared.doc.Value.TheVariants as values
-use Rattle.doc_value.specs.Documents.{IsOfKind, AreOfKind, IsOfSchema}
+use Rattle.doc_value.specs.Documents.{IsOfKind, AreOfKind, IsOfSchema, values_in}
 use Rattle.doc_value.specs.Terms.{turned}
 use Rattle.fast_fields.specs.Columns.{Cell, AreEntries, IsNumber, cells, cells_of}
 use Rattle.fast_fields.specs.Columns as columns
@@ -21,7 +21,7 @@ use Rattle.fast_fields.specs.declared.entries.Entry.{Entry}
 use Rattle.fast_fields.specs.declared.rows.ColumnRow.{ColumnRow}
 use Rattle.term_dict.specs.declared.index.BlockStart.{BlockStart}
 use Rattle.query_ast.specs.declared.query.Edge.{Edge}
-use Rattle.query_ast.specs.Meaning.{values_in, is_above, is_below, between}
+use Rattle.query_ast.specs.Meaning.{is_above, is_below, between}
 use Rattle.query_ast.specs.Queries.{has_order}
 use Rattle.split_bundle.specs.Columns.{column_rows, row_of, rows_from}
 use Rattle.split_bundle.specs.declared.placed.Placed.{Placed}

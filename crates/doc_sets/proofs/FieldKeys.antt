@@ -8,7 +8,7 @@ use Rattle.doc_value.specs.declared.doc.DocField.{DocField}
 use Rattle.doc_value.specs.Terms.{term_bytes}
 use Rattle.text_tokens.specs.declared.tokens.Token.{Token}
 use Rattle.query_ast.specs.FieldTokens.{field_tokens}
-use Rattle.query_ast.specs.Meaning.{values_in}
+use Rattle.doc_value.specs.Documents.{values_in}
 use Rattle.split_bundle.specs.Keys.{Occurrence, field_key, presence_key, of_tokens, of_value, of_values, of_presence, of_field, of_fields, keys_of}
 use Rattle.doc_sets.specs.Asked.{such}
 

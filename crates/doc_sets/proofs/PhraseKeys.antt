@@ -5,7 +5,8 @@ use Rattle.std.proofs.lemmas.Bool.{cases_eq, ne_eqb, eqb-true, or_cases}
 use Rattle.doc_value.specs.declared.schema.Field.{Field}
 use Rattle.doc_value.specs.declared.doc.Value.{Value}
 use Rattle.text_tokens.specs.declared.tokens.Token.{Token}
-use Rattle.query_ast.specs.Meaning.{values_in, each_stands, tokens_in, has_token_at, stands_at, stands_at_one, has_phrase, some_has_phrase}
+use Rattle.query_ast.specs.Meaning.{each_stands, tokens_in, has_token_at, stands_at, stands_at_one, has_phrase, some_has_phrase}
+use Rattle.doc_value.specs.Documents.{values_in}
 use Rattle.doc_value.specs.declared.doc.DocField.{DocField}
 use Rattle.doc_value.specs.declared.schema.Schema.{Schema}
 use Rattle.split_bundle.specs.Keys.{Occurrence, field_key, value_place, keys_of}

@@ -8,7 +8,8 @@ use Rattle.doc_value.specs.declared.doc.Value.TheVariants as values
 use Rattle.doc_value.specs.declared.doc.DocField.{DocField}
 use Rattle.text_tokens.specs.declared.tokens.Token.{Token}
 use Rattle.query_ast.specs.FieldTokens.{field_tokens}
-use Rattle.query_ast.specs.Meaning.{values_in, tokens_in, has_token, some_has_token}
+use Rattle.query_ast.specs.Meaning.{tokens_in, has_token, some_has_token}
+use Rattle.doc_value.specs.Documents.{values_in}
 use Rattle.doc_value.specs.Terms.{term_bytes}
 use Rattle.split_bundle.specs.Keys.{Occurrence, field_key, value_place, of_tokens, of_value, of_values, of_presence, of_field, of_fields, keys_of}
 use Rattle.split_bundle.specs.Lists.{has_key, places_of}

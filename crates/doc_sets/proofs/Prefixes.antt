@@ -9,7 +9,8 @@ use Rattle.doc_value.specs.declared.doc.Value.TheVariants as values
 use Rattle.doc_value.specs.declared.doc.DocField.{DocField}
 use Rattle.text_tokens.specs.declared.tokens.Token.{Token}
 use Rattle.query_ast.specs.FieldTokens.{field_tokens}
-use Rattle.query_ast.specs.Meaning.{values_in, has_prefix, some_has_prefix}
+use Rattle.query_ast.specs.Meaning.{has_prefix, some_has_prefix}
+use Rattle.doc_value.specs.Documents.{values_in}
 use Rattle.split_bundle.specs.Keys.{field_key, presence_key, of_tokens, of_values, keys_of}
 use Rattle.doc_sets.specs.Asked.{AreTexts, begins}
 use Rattle.doc_sets.proofs.FieldKeys.{such_append, in_field}

@@ -12,11 +12,11 @@ use Rattle.doc_value.specs.declared.schema.Schema.{Schema}
 use Rattle.doc_value.specs.declared.doc.Value.{Value}
 use Rattle.doc_value.specs.declared.doc.Value.TheVariants as values
 use Rattle.doc_value.specs.declared.doc.DocField.{DocField}
-use Rattle.doc_value.specs.Documents.{IsOfKind, AreOfKind}
+use Rattle.doc_value.specs.Documents.{IsOfKind, AreOfKind, values_in}
 use Rattle.doc_value.specs.Terms.{term_bytes, turned}
 use Rattle.query_ast.specs.declared.query.Edge.{Edge}
 use Rattle.query_ast.specs.declared.query.Edge.TheVariants as edges
-use Rattle.query_ast.specs.Meaning.{values_in, value_below, same_value, is_above, is_below, between}
+use Rattle.query_ast.specs.Meaning.{value_below, same_value, is_above, is_below, between}
 use Rattle.query_ast.specs.Queries.{has_order}
 use Rattle.split_bundle.specs.Keys.{field_key, presence_key, of_value, of_values, keys_of}
 use Rattle.doc_sets.specs.Asked.{such}

@@ -9,11 +9,11 @@ use Rattle.doc_value.specs.declared.schema.Schema.{Schema}
 use Rattle.doc_value.specs.declared.doc.Value.{Value}
 use Rattle.doc_value.specs.declared.doc.Value.TheVariants as values
 use Rattle.doc_value.specs.declared.doc.DocField.{DocField}
-use Rattle.doc_value.specs.Documents.{IsOfSchema, FitsFrom, FitsField, AreOfKind}
+use Rattle.doc_value.specs.Documents.{IsOfSchema, FitsFrom, FitsField, AreOfKind, values_in}
 use Rattle.text_tokens.specs.declared.tokens.Token.{Token}
 use Rattle.query_ast.specs.declared.query.Query.{Query, Row_of-Query, end_of-Query, more_of-Query, items-the_row-Query}
 use Rattle.query_ast.specs.Sought.{view, view_row}
-use Rattle.query_ast.specs.Meaning.{meaning, all_hold, some_hold, all_in, some_in, values_in, is_text, each_stands, some_has_token}
+use Rattle.query_ast.specs.Meaning.{meaning, all_hold, some_hold, all_in, some_in, is_text, each_stands, some_has_token}
 use Rattle.std.specs.Option.{option_map_or}
 use Rattle.split_bundle.specs.Keys.{field_key, presence_key}
 use Rattle.split_bundle.specs.Lists.{keeps_places}

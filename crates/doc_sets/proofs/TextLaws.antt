@@ -8,9 +8,9 @@ use Rattle.doc_value.specs.declared.schema.Schema.{Schema}
 use Rattle.doc_value.specs.declared.doc.DocField.{DocField}
 use Rattle.doc_value.specs.declared.doc.Value.{Value}
 use Rattle.doc_value.specs.declared.doc.Value.TheVariants as values
-use Rattle.doc_value.specs.Documents.{IsOfKind}
+use Rattle.doc_value.specs.Documents.{IsOfKind, values_in}
 use Rattle.query_ast.specs.FieldTokens.{field_tokens}
-use Rattle.query_ast.specs.Meaning.{values_in, is_text, equals_some, each_stands, each_holds, phrase_holds, quoted_holds, word_holds, item_holds, some_item_holds}
+use Rattle.query_ast.specs.Meaning.{is_text, equals_some, each_stands, each_holds, phrase_holds, quoted_holds, word_holds, item_holds, some_item_holds}
 use Rattle.query_ast.specs.Spelled.{spelled, signed_of, unsigned_of, truth_of, datetime_of}
 use Rattle.query_ast.specs.declared.query.Item.{Item}
 use Rattle.text_tokens.specs.declared.tokens.Token.{Token}

@@ -14,9 +14,9 @@ use Rattle.doc_value.specs.declared.schema.Schema.{Schema}
 use Rattle.doc_value.specs.declared.doc.Value.{Value}
 use Rattle.doc_value.specs.declared.doc.Value.TheVariants as values
 use Rattle.doc_value.specs.declared.doc.DocField.{DocField}
-use Rattle.doc_value.specs.Documents.{IsOfKind, AreOfKind}
+use Rattle.doc_value.specs.Documents.{IsOfKind, AreOfKind, values_in}
 use Rattle.doc_value.specs.Terms.{term_bytes, turned, truth_byte}
-use Rattle.query_ast.specs.Meaning.{values_in, is_text, same_value, equals_some}
+use Rattle.query_ast.specs.Meaning.{is_text, same_value, equals_some}
 use Rattle.split_bundle.specs.Keys.{field_key, of_value, of_values, keys_of}
 use Rattle.split_bundle.specs.Lists.{has_key}
 use Rattle.doc_sets.specs.Values.{Has64, AllHave64}

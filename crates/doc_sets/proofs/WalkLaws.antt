@@ -3,9 +3,9 @@ use Rattle.std.proofs.Common.{◌≡◌, ℕ, ◌<◌, Bool, true, false, ◌&&�
 use Rattle.std.specs.List.{starts_with}
 use Rattle.doc_value.specs.declared.schema.Field.{Field}
 use Rattle.doc_value.specs.declared.schema.Schema.{Schema}
-use Rattle.doc_value.specs.Documents.{IsOfSchema}
+use Rattle.doc_value.specs.Documents.{IsOfSchema, values_in}
 use Rattle.query_ast.specs.declared.query.Edge.{Edge}
-use Rattle.query_ast.specs.Meaning.{values_in, is_text, some_has_prefix, between}
+use Rattle.query_ast.specs.Meaning.{is_text, some_has_prefix, between}
 use Rattle.query_ast.specs.Queries.{has_order}
 use Rattle.split_bundle.specs.declared.placed.Placed.{Placed}
 use Rattle.split_bundle.specs.declared.part_view.PartView.{PartView}

@@ -3,7 +3,7 @@ use Rattle.std.specs.Prelude.{◌≡◌, ℕ, ◌+◌, ◌^◌, ◌<◌, ◌⊎�
 use Rattle.std.specs.List.{AllByRecursion}
 use Rattle.doc_value.specs.declared.schema.Schema.{Schema}
 use Rattle.doc_value.specs.declared.schema.Field.{Field}
-use Rattle.query_ast.specs.Meaning.{values_in}
+use Rattle.doc_value.specs.Documents.{values_in}
 use Rattle.term_dict.specs.Terms.{area, lookup}
 use Rattle.term_dict.specs.Bounds.{IsBlockOf, block_terms}
 use Rattle.term_dict.specs.declared.term.TermInfo.{TermInfo}

@@ -4,7 +4,8 @@ ghost use Rattle.std.specs.Prelude.{[], ◌∷◌, ◌≡◌, ◌<◌, ◌≤◌
 ghost use Rattle.std.specs.List.{AllByRecursion, starts_with};
 ghost use Rattle.doc_value.specs.declared.doc.DocField.{DocField};
 ghost use Rattle.doc_value.specs.declared.schema.Schema.{Schema};
-ghost use Rattle.query_ast.specs.Meaning.{values_in, is_text, some_has_prefix, between};
+ghost use Rattle.query_ast.specs.Meaning.{is_text, some_has_prefix, between};
+ghost use Rattle.doc_value.specs.Documents.{values_in};
 ghost use Rattle.query_ast.specs.FieldTokens.{prefix_text};
 ghost use Rattle.query_ast.specs.Queries.{has_order};
 ghost use Rattle.term_dict.specs.Readers.{Lends, is_before_end};

@@ -2,7 +2,8 @@
 
 ghost use Rattle.std.specs.Prelude.{◌≡◌, ℕ, ◌+◌, ◌<◌, ◌≤◌, ◌⊎◌, ◌&&◌, ◌||◌, nat_eq, true, List, Some, drop, length, vec_len, slice_get, IfOk, MatchResult};
 ghost use Rattle.doc_value.specs.declared.schema.Schema.{Schema};
-ghost use Rattle.query_ast.specs.Meaning.{values_in, is_text, first_position, phrase_holds};
+ghost use Rattle.query_ast.specs.Meaning.{is_text, first_position, phrase_holds};
+ghost use Rattle.doc_value.specs.Documents.{values_in};
 ghost use Rattle.term_postings.specs.Postings.{AreRising};
 ghost use Rattle.split_bundle.specs.declared.placed.Placed.{Placed};
 ghost use Rattle.split_bundle.specs.Files.{Parts};

@@ -3,7 +3,8 @@
 ghost use Rattle.std.specs.Prelude.{◌≡◌, ◌<◌, true, false, Some, List, slice_get, IfOk, MatchResult};
 ghost use Rattle.doc_value.specs.declared.schema.Schema.{Schema};
 ghost use Rattle.query_ast.specs.FieldTokens.{field_tokens};
-ghost use Rattle.query_ast.specs.Meaning.{values_in, is_text, equals_some, phrase_holds, each_holds, quoted_holds, word_holds, item_holds, some_item_holds};
+ghost use Rattle.query_ast.specs.Meaning.{is_text, equals_some, phrase_holds, each_holds, quoted_holds, word_holds, item_holds, some_item_holds};
+ghost use Rattle.doc_value.specs.Documents.{values_in};
 ghost use Rattle.query_ast.specs.Spelled.{spelled};
 ghost use Rattle.split_bundle.specs.declared.placed.Placed.{Placed};
 ghost use Rattle.split_bundle.specs.Files.{Parts};

@@ -2,9 +2,9 @@
 
 ghost use Rattle.std.specs.Prelude.{◌≡◌, ◌<◌, ◌∷◌, [], true, false, List, Some, slice_get, IfOk, MatchResult};
 ghost use Rattle.doc_value.specs.declared.schema.Schema.{Schema};
-ghost use Rattle.doc_value.specs.Documents.{IsOfKind};
+ghost use Rattle.doc_value.specs.Documents.{IsOfKind, values_in};
 ghost use Rattle.doc_value.specs.Terms.{term_bytes};
-ghost use Rattle.query_ast.specs.Meaning.{values_in, is_text, is_there, equals_some};
+ghost use Rattle.query_ast.specs.Meaning.{is_text, is_there, equals_some};
 ghost use Rattle.split_bundle.specs.declared.placed.Placed.{Placed};
 ghost use Rattle.split_bundle.specs.Files.{Parts};
 ghost use Rattle.split_bundle.specs.Keys.{field_key, presence_key};

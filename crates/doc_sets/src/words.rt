@@ -2,7 +2,8 @@
 
 ghost use Rattle.std.specs.Prelude.{◌≡◌, ◌<◌, ◌∷◌, [], true, List, Some, map, slice_get, IfOk, MatchResult};
 ghost use Rattle.doc_value.specs.declared.schema.Schema.{Schema};
-ghost use Rattle.query_ast.specs.Meaning.{values_in, is_text, some_has_token, each_stands};
+ghost use Rattle.query_ast.specs.Meaning.{is_text, some_has_token, each_stands};
+ghost use Rattle.doc_value.specs.Documents.{values_in};
 ghost use Rattle.split_bundle.specs.declared.placed.Placed.{Placed};
 ghost use Rattle.split_bundle.specs.Files.{Parts};
 ghost use Rattle.split_bundle.specs.Keys.{field_key};

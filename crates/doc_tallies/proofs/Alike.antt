@@ -6,7 +6,8 @@ use Rattle.std.specs.Ordering.{int_eq}
 use Rattle.std.proofs.lemmas.List.Sums.{sum_by-cons}
 use Rattle.doc_value.specs.declared.doc.DocField.{DocField}
 use Rattle.doc_value.specs.declared.doc.Value.{Value}
-use Rattle.agg_model.specs.Counting.{values_in, first_whole, has_value, is_same, lies_in, slot_of, step_of, whole}
+use Rattle.agg_model.specs.Counting.{first_whole, has_value, is_same, lies_in, slot_of, step_of, whole}
+use Rattle.doc_value.specs.Documents.{values_in}
 use Rattle.agg_model.specs.Checking as counted
 use Rattle.agg_model.specs.Partials.{CountsFor}
 use Rattle.agg_model.specs.declared.counts.Counts.{Counts}

@@ -8,7 +8,8 @@ use Rattle.std.proofs.lemmas.List.Folds.{sum_by-replicate}
 use Rattle.std.proofs.lemmas.List.Sums.{sum_by-append}
 use Rattle.doc_value.specs.declared.doc.DocField.{DocField}
 use Rattle.doc_value.specs.declared.doc.Value.{Value}
-use Rattle.agg_model.specs.Counting.{values_in, has_value, is_same, lies_in, step_of, whole}
+use Rattle.agg_model.specs.Counting.{has_value, is_same, lies_in, step_of, whole}
+use Rattle.doc_value.specs.Documents.{values_in}
 use Rattle.agg_model.specs.Checking.{field_of}
 use Rattle.agg_model.specs.Partials.{CountsFor, StandsFor}
 use Rattle.agg_model.specs.declared.request.Agg.{Agg}

@@ -10,11 +10,10 @@ use Rattle.doc_value.specs.declared.doc.DocField.{DocField}
 use Rattle.doc_value.specs.declared.doc.Value.{Value}
 use Rattle.doc_value.specs.declared.schema.Schema.{Schema}
 use Rattle.doc_value.specs.declared.schema.Kind.{Kind}
-use Rattle.doc_value.specs.Documents.{AreOfKind, IsOfSchema}
+use Rattle.doc_value.specs.Documents.{AreOfKind, IsOfSchema, values_in}
 use Rattle.split_bundle.specs.Held.{IsHeld, IsHeldValue}
 use Rattle.doc_tallies.proofs.FieldValues.{are_values}
-use Rattle.query_ast.specs.Meaning as meant
-use Rattle.agg_model.specs.Counting.{values_in, has_value, is_same, lies_in, step_of, whole}
+use Rattle.agg_model.specs.Counting.{has_value, is_same, lies_in, step_of, whole}
 use Rattle.agg_model.specs.Checking.{field_of}
 use Rattle.agg_model.specs.Partials.{CountsFor, StandsFor}
 use Rattle.agg_model.specs.declared.request.Agg.{Agg}
@@ -29,11 +28,6 @@ use Rattle.doc_tallies.specs.declared.field_column.FieldColumn.{FieldColumn}
 use Rattle.doc_tallies.specs.AggColumns.{AreColumnsFor, HasValuesOf}
 use Rattle.doc_tallies.specs.Counted.{agg_fields}
 use Rattle.doc_tallies.specs.Cells.{IsColumnFor}
-
--- both words for the values of a field say the same
-pub same_values : (d : List DocField) (n : ℕ) → meant.values_in d n ≡ values_in d n
-same_values [] n = refl
-same_values (f ∷ fs) n = ap (λ (vs : List Value). if f.number == n then f.values else vs) (same_values fs n)
 
 -- ---- the last document
 
@@ -70,7 +64,7 @@ stands_last request partial ds shown doc same stands = record {
 -- ---- a document by columns
 
 abbrev pub field_shown : Placed → FieldColumn → DocField
-field_shown d c = record { number = c.number; values = meant.values_in d.doc c.number }
+field_shown d c = record { number = c.number; values = values_in d.doc c.number }
 
 abbrev pub shown_of : Placed → List FieldColumn → List DocField
 shown_of d columns = map (field_shown d) columns
@@ -85,8 +79,8 @@ shown_has d n [] has = absurd has
 shown_has d n (c ∷ cs) has = go (c.number == n) refl has (shown_has d n cs)
   where
     go : (b : Bool) → (c.number == n) ≡ b → HasNumber n (c ∷ cs) → (HasNumber n cs → values_in (shown_of d cs) n ≡ values_in d.doc n)
-        → (if b then meant.values_in d.doc c.number else values_in (shown_of d cs) n) ≡ values_in d.doc n
-    go true e has rest = ap (λ (k : ℕ). meant.values_in d.doc k) (eqb-true c.number n e) ∙ same_values d.doc n
+        → (if b then values_in d.doc c.number else values_in (shown_of d cs) n) ≡ values_in d.doc n
+    go true e has rest = ap (λ (k : ℕ). values_in d.doc k) (eqb-true c.number n e)
     go false e (inl same) rest = absurd (let yes : (c.number == n) ≡ true = eq-eqb c.number n same in cc)
     go false e (inr more) rest = rest more
 
@@ -124,8 +118,8 @@ column_at s documents (a ∷ rest) (x ∷ xs) (suc i) c are lt e = column_at s d
 -- what a column's values in a document are
 pub record IsColumnAt (documents : List Placed) (d : Placed) (c : FieldColumn) : Type 0 where
   pub is_of : IsOf c.column (column_rows c.number documents)
-  pub of_kind : AreOfKind c.kind (meant.values_in d.doc c.number)
-  pub held : AllByRecursion IsHeldValue (meant.values_in d.doc c.number)
+  pub of_kind : AreOfKind c.kind (values_in d.doc c.number)
+  pub held : AllByRecursion IsHeldValue (values_in d.doc c.number)
 
 pub values_of_column : (s : Schema) (documents : List Placed) (n : ℕ) (c : FieldColumn) (d : Placed) → IsColumnFor s documents n c → IsOfSchema s d.doc → IsHeld d → IsColumnAt documents d c
 values_of_column s documents n c d is of held =
@@ -133,8 +127,8 @@ values_of_column s documents n c d is of held =
     let are = are_values s n is.field d.doc is.here of held.doc in
     record {
       is_of = subst (λ (k : ℕ). IsOf c.column (column_rows k documents)) same is.is_of;
-      of_kind = subst (λ (k : ℕ). AreOfKind c.kind (meant.values_in d.doc k)) same (subst (λ (k : Kind). AreOfKind k (meant.values_in d.doc n)) (sym is.kind_is) are.of_kind);
-      held = subst (λ (k : ℕ). AllByRecursion IsHeldValue (meant.values_in d.doc k)) same are.held;
+      of_kind = subst (λ (k : ℕ). AreOfKind c.kind (values_in d.doc k)) same (subst (λ (k : Kind). AreOfKind k (values_in d.doc n)) (sym is.kind_is) are.of_kind);
+      held = subst (λ (k : ℕ). AllByRecursion IsHeldValue (values_in d.doc k)) same are.held;
     }
 
 zip_push : (s : Schema) (documents : List Placed) (fields : List ℕ) (columns : List FieldColumn) (a : ℕ) (c : FieldColumn) → AreColumnsFor s documents fields columns → IsColumnFor s documents a c
@@ -152,7 +146,7 @@ columns_push s documents fields old new i a (Some c) lt at are is e =
     rw (front, e) (zip_push s documents (take i fields) old a c are is)
 
 pub fields_push : (d : Placed) (columns : List FieldColumn) (i : ℕ) (c : FieldColumn) (old new : List DocField) (values : List Value) → i < length columns → c ≡ get_or columns i c → old ≡ shown_of d (take i columns)
-    → values ≡ meant.values_in d.doc c.number → new ≡ old ++ record { number = c.number; values = values } ∷ [] → new ≡ shown_of d (take (i + 1) columns)
+    → values ≡ values_in d.doc c.number → new ≡ old ++ record { number = c.number; values = values } ∷ [] → new ≡ shown_of d (take (i + 1) columns)
 fields_push d columns i c old new values lt at before is e =
     let front : take (i + 1) columns ≡ take i columns ++ c ∷ [] = take_more columns i c lt ∙ ap (λ (x : FieldColumn). take i columns ++ x ∷ []) (sym at) in
     e ∙ (ap (λ (vs : List Value). old ++ record { number = c.number; values = vs } ∷ []) is

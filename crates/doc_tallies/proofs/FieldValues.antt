@@ -10,8 +10,7 @@ use Rattle.fast_fields.specs.Columns.{IsNumber}
 use Rattle.doc_value.specs.declared.schema.Schema.{Schema}
 use Rattle.doc_value.specs.declared.doc.Value.{Value}
 use Rattle.doc_value.specs.declared.doc.DocField.{DocField}
-use Rattle.doc_value.specs.Documents.{IsOfSchema, FitsFrom, FitsField, IsOfKind, AreOfKind, HasGoodCount}
-use Rattle.query_ast.specs.Meaning.{values_in}
+use Rattle.doc_value.specs.Documents.{IsOfSchema, FitsFrom, FitsField, IsOfKind, AreOfKind, HasGoodCount, values_in}
 use Rattle.split_bundle.specs.Held.{IsHeldValue, AreHeld}
 
 -- values of a kind, as programs hold them: none, or as many as a document may have

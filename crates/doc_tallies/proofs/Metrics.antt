@@ -8,16 +8,15 @@ use Rattle.doc_value.specs.declared.doc.Value.TheVariants as values
 use Rattle.doc_value.specs.declared.schema.Kind.{Kind}
 use Rattle.doc_value.specs.declared.schema.Kind.TheVariants as kinds
 use Rattle.doc_value.specs.declared.schema.Schema.{Schema}
-use Rattle.agg_model.specs.Counting.{values_in, whole}
+use Rattle.agg_model.specs.Counting.{whole}
+use Rattle.doc_value.specs.Documents.{values_in}
 use Rattle.fast_fields.specs.Readers.{first_number}
-use Rattle.query_ast.specs.Meaning as meant
 use Rattle.split_bundle.specs.Splits.{AreDocumentsOf}
 use Rattle.split_bundle.specs.declared.placed.Placed.{Placed}
 use Rattle.doc_tallies.specs.AggColumns.{AreColumnsFor}
 use Rattle.doc_tallies.specs.Cells.{IsColumnFor}
 use Rattle.doc_tallies.specs.Marks.{HasFirst, IsSingle, unturned, whole_there}
 use Rattle.doc_tallies.specs.declared.field_column.FieldColumn.{FieldColumn}
-use Rattle.doc_tallies.proofs.Counted.{same_values}
 use Rattle.doc_tallies.proofs.MarkValues.{IsOneOrNone, one_or_none, whole_first}
 use Rattle.doc_tallies.proofs.Owned.{first_of}
 use Rattle.doc_tallies.proofs.Regrouped.{in_column}
@@ -32,9 +31,9 @@ pub first_in : (s : Schema) (documents : List Placed) (number : ℕ) (c : FieldC
 first_in s documents number c n d o single of is lt here e =
     let at = in_column s documents number c n of is lt in
     let same : at.document ≡ d = (let mine = at.here in cc) in
-    let vs = meant.values_in at.document.doc number in
+    let vs = values_in at.document.doc number in
     let first : o ≡ first_of at.own.own = e ∙ at.own.first in
-    let values : vs ≡ values_in d.doc number = same_values at.document.doc number ∙ ap (λ (x : Placed). values_in x.doc number) same in
+    let values : vs ≡ values_in d.doc number = ap (λ (x : Placed). values_in x.doc number) same in
     let one = one_or_none is.is_of.texts n c.kind vs at.own.own single at.own.are at.values in
     record {
       many = sym (ap length values) ∙ (one_long is.is_of.texts c.kind vs (first_of at.own.own) one ∙ ap (λ (x : Option ℕ). option_map_or (λ n. 1) x 0) (sym first));

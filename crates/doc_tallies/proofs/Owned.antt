@@ -7,7 +7,7 @@ use Rattle.fast_fields.specs.Columns.{Cell, cells, cells_of, AreEntries, IsNumbe
 use Rattle.fast_fields.specs.Readers.{count_below, first_number}
 use Rattle.fast_fields.specs.declared.entries.Entry.{Entry}
 use Rattle.fast_fields.specs.declared.rows.ColumnRow.{ColumnRow}
-use Rattle.query_ast.specs.Meaning.{values_in}
+use Rattle.doc_value.specs.Documents.{values_in}
 use Rattle.split_bundle.specs.Columns.{row_of, rows_from}
 use Rattle.split_bundle.specs.declared.placed.Placed.{Placed}
 

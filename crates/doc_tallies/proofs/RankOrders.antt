@@ -14,12 +14,11 @@ use Rattle.doc_value.specs.declared.schema.Kind.TheVariants as kinds
 use Rattle.doc_value.specs.declared.schema.Schema.{Schema}
 use Rattle.doc_value.specs.declared.doc.Value.{Value}
 use Rattle.doc_value.specs.declared.doc.Value.TheVariants as values
-use Rattle.doc_value.specs.Documents.{IsOfKind, IsOfSchema}
+use Rattle.doc_value.specs.Documents.{IsOfKind, IsOfSchema, values_in}
 use Rattle.doc_value.specs.Terms.{value_cmp, turned}
 use Rattle.fast_fields.specs.Columns.{IsNumber, TextsRise, AreEntries, cells, cells_of, is_below}
 use Rattle.fast_fields.specs.Readers.{first_number}
 use Rattle.fast_fields.specs.declared.entries.Entry.{Entry}
-use Rattle.query_ast.specs.Meaning.{values_in}
 use Rattle.split_bundle.specs.Columns.{column_rows}
 use Rattle.split_bundle.specs.Held.{IsHeld, IsHeldValue}
 use Rattle.split_bundle.specs.Splits.{AreDocumentsOf}

@@ -11,9 +11,8 @@ use Rattle.doc_value.specs.declared.doc.DocField.{DocField}
 use Rattle.doc_value.specs.declared.doc.Value.{Value}
 use Rattle.doc_value.specs.declared.schema.Kind.{Kind}
 use Rattle.doc_value.specs.declared.schema.Schema.{Schema}
-use Rattle.doc_value.specs.Documents.{IsOfSchema}
-use Rattle.query_ast.specs.Meaning as meant
-use Rattle.agg_model.specs.Counting.{values_in, first_whole, has_value, is_same, lies_in, step_of, whole}
+use Rattle.doc_value.specs.Documents.{IsOfSchema, values_in}
+use Rattle.agg_model.specs.Counting.{first_whole, has_value, is_same, lies_in, step_of, whole}
 use Rattle.agg_model.specs.Checking.{field_of}
 use Rattle.agg_model.specs.Partials.{CountsFor, StandsFor}
 use Rattle.agg_model.specs.declared.counts.Counts.{Counts}
@@ -33,7 +32,6 @@ use Rattle.doc_tallies.specs.Cells.{IsColumnFor}
 use Rattle.doc_tallies.specs.Classes.{AreClasses, CountAlike, GroupsAlike, IsAmong, RespectsDocs, class_sum, doc_at, spread, weighed}
 use Rattle.doc_tallies.specs.Marks.{IsSingle, mark_at, mark_of}
 use Rattle.doc_tallies.specs.Picked.{AllBelow, docs_of, picked}
-use Rattle.doc_tallies.proofs.Counted.{same_values}
 use Rattle.doc_tallies.proofs.FieldValues.{AreValues, are_values, each_at}
 use Rattle.doc_tallies.proofs.MarkValues.{first_step, one_or_none, same_ones, step_by}
 use Rattle.doc_tallies.proofs.Owned.{Own, first_of, owned}
@@ -44,15 +42,15 @@ use Rattle.doc_tallies.proofs.TimeValues.{stands}
 pub record InColumn (documents : List Placed) (number : ℕ) (kind : Kind) (texts : List (List ℕ)) (entries : List Entry) (n : ℕ) : Type 0 where
   pub document : Placed
   pub here : slice_get documents n ≡ Some document
-  pub own : Own texts n (meant.values_in document.doc number) entries
-  pub values : AreValues kind (meant.values_in document.doc number)
+  pub own : Own texts n (values_in document.doc number) entries
+  pub values : AreValues kind (values_in document.doc number)
 
 pub in_column : (s : Schema) (documents : List Placed) (number : ℕ) (c : FieldColumn) (n : ℕ) → AreDocumentsOf s documents → (is : IsColumnFor s documents number c) → n < length documents
     → InColumn documents number c.kind is.is_of.texts is.is_of.entries n
 in_column s documents number c n of is lt =
     let at = stands documents n lt in
     let d = at.document in
-    let vs = meant.values_in d.doc number in
+    let vs = values_in d.doc number in
     let values = are_values s number is.field d.doc is.here (each_at (λ (x : Placed). IsOfSchema s x.doc) documents n d of.of_schema at.here) (each_at IsHeld documents n d of.held at.here).doc in
     record {
       document = d;
@@ -69,21 +67,20 @@ doc_is documents n d here = rw here refl
 same_by_terms : (documents : List Placed) (field size : ℕ) (kind : Kind) (texts : List (List ℕ)) (entries : List Entry) (n m : ℕ) → IsSingle kind → InColumn documents field kind texts entries n → InColumn documents field kind texts entries m
     → mark_at (Terms field size) kind entries n ≡ mark_at (Terms field size) kind entries m → values_in (doc_at documents n) field ≡ values_in (doc_at documents m) field
 same_by_terms documents field size kind texts entries n m single a b e =
-    let mine = one_or_none texts n kind (meant.values_in a.document.doc field) a.own.own single a.own.are a.values in
-    let yours = one_or_none texts m kind (meant.values_in b.document.doc field) b.own.own single b.own.are b.values in
+    let mine = one_or_none texts n kind (values_in a.document.doc field) a.own.own single a.own.are a.values in
+    let yours = one_or_none texts m kind (values_in b.document.doc field) b.own.own single b.own.are b.values in
     let marks : option_map pos (first_of a.own.own) ≡ option_map pos (first_of b.own.own) = sym (ap (option_map pos) a.own.first) ∙ (e ∙ ap (option_map pos) b.own.first) in
-    let same = same_ones texts kind (meant.values_in a.document.doc field) (meant.values_in b.document.doc field) (first_of a.own.own) (first_of b.own.own) mine yours marks in
+    let same = same_ones texts kind (values_in a.document.doc field) (values_in b.document.doc field) (first_of a.own.own) (first_of b.own.own) mine yours marks in
     ap (λ (d : List DocField). values_in d field) (doc_is documents n a.document a.here)
-    ∙ (sym (same_values a.document.doc field) ∙ (same ∙ (same_values b.document.doc field ∙ sym (ap (λ (d : List DocField). values_in d field) (doc_is documents m b.document b.here)))))
+    ∙ (same ∙ sym (ap (λ (d : List DocField). values_in d field) (doc_is documents m b.document b.here)))
 
 step_at : (documents : List Placed) (field size : ℕ) (interval offset : ℤ) (kind : Kind) (texts : List (List ℕ)) (entries : List Entry) (n : ℕ) (least : ℕ) (dated : Bool) → (at : InColumn documents field kind texts entries n)
     → option_map (step_of interval offset) (first_whole field (doc_at documents n)) ≡ step_by kind (mark_at (Histogram field interval offset least dated) kind entries n)
 step_at documents field size interval offset kind texts entries n least dated at =
-    let vs = meant.values_in at.document.doc field in
+    let vs = values_in at.document.doc field in
     ap (λ (d : List DocField). option_map (step_of interval offset) (first_whole field d)) (doc_is documents n at.document at.here)
-    ∙ (sym (ap (λ (ws : List Value). option_map (step_of interval offset) (option_and_then whole (slice_get ws 0))) (same_values at.document.doc field))
     ∙ (first_step texts interval offset n kind vs at.own.own at.own.are at.values
-    ∙ sym (ap (λ (o : Option ℕ). step_by kind (option_map (mark_of (Histogram field interval offset least dated) kind) o)) at.own.first)))
+    ∙ sym (ap (λ (o : Option ℕ). step_by kind (option_map (mark_of (Histogram field interval offset least dated) kind) o)) at.own.first))
 
 alike_docs : (agg : Agg) (documents : List Placed) (kind : Kind) (texts : List (List ℕ)) (entries : List Entry) (n m : ℕ) → IsSingle kind → InColumn documents (field_of agg) kind texts entries n → InColumn documents (field_of agg) kind texts entries m
     → mark_at agg kind entries n ≡ mark_at agg kind entries m → CountAlike agg (doc_at documents n) (doc_at documents m)

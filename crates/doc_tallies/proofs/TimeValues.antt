@@ -12,13 +12,13 @@ use Rattle.doc_value.specs.declared.schema.Schema.{Schema}
 use Rattle.doc_value.specs.declared.doc.Value.{Value}
 use Rattle.doc_value.specs.declared.doc.Value.TheVariants as values
 use Rattle.doc_value.specs.declared.doc.DocField.{DocField}
-use Rattle.doc_value.specs.Documents.{IsTimestamp, HasGoodCount}
+use Rattle.doc_value.specs.Documents.{IsTimestamp, HasGoodCount, values_in}
 use Rattle.fast_fields.specs.Columns.{cells_of, AreEntries}
 use Rattle.doc_value.specs.Terms.{turned}
 use Rattle.fast_fields.specs.Readers.{IsOf, first_number}
 use Rattle.fast_fields.specs.declared.column.Column.{Column}
 use Rattle.fast_fields.specs.declared.entries.Entry.{Entry}
-use Rattle.query_ast.specs.Meaning.{values_in, from_start, before_end, some_within, is_unlimited, within_times}
+use Rattle.query_ast.specs.Meaning.{from_start, before_end, some_within, is_unlimited, within_times}
 use Rattle.split_bundle.specs.declared.placed.Placed.{Placed}
 use Rattle.split_bundle.specs.Columns.{column_rows}
 use Rattle.split_bundle.specs.Splits.{AreDocumentsOf}

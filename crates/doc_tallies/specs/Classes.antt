@@ -4,7 +4,8 @@ use Rattle.std.specs.List.{All, flat_map, sum_by}
 use Rattle.std.specs.Option.{option_map, option_map_or}
 use Rattle.doc_value.specs.declared.doc.DocField.{DocField}
 use Rattle.doc_value.specs.declared.schema.Kind.{Kind}
-use Rattle.agg_model.specs.Counting.{values_in, first_whole, step_of}
+use Rattle.agg_model.specs.Counting.{first_whole, step_of}
+use Rattle.doc_value.specs.Documents.{values_in}
 use Rattle.agg_model.specs.declared.request.Agg.{Agg}
 use Rattle.agg_model.specs.declared.request.Agg.TheVariants.{Terms, Histogram}
 use Rattle.fast_fields.specs.declared.entries.Entry.{Entry}

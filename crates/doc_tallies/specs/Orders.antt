@@ -7,7 +7,7 @@ use Rattle.std.specs.declared.cmp.Ordering.TheVariants.{Less, Equal, Greater}
 use Rattle.doc_value.specs.declared.doc.Value.{Value}
 use Rattle.doc_value.specs.declared.doc.DocField.{DocField}
 use Rattle.doc_value.specs.Terms.{value_cmp}
-use Rattle.query_ast.specs.Meaning.{values_in}
+use Rattle.doc_value.specs.Documents.{values_in}
 use Rattle.split_bundle.specs.declared.placed.Placed.{Placed}
 use Rattle.doc_tallies.specs.declared.hit_order.HitOrder.{HitOrder}
 use Rattle.doc_value.specs.declared.schema.Schema.{Schema}

@@ -3,12 +3,11 @@
 ghost use Rattle.std.specs.Prelude.{◌≡◌, ◌<◌, ◌++◌, ◌∷◌, [], ◌^◌, ℕ, ℤ, List, Some, slice_get, IfOk, OnOk};
 ghost use Rattle.std.specs.List.{AllByRecursion};
 ghost use Rattle.byte_fields.specs.Spelling.{zigzag};
-ghost use Rattle.doc_value.specs.Documents.{AreOfKind, IsOfKind};
+ghost use Rattle.doc_value.specs.Documents.{AreOfKind, IsOfKind, values_in};
 ghost use Rattle.fast_fields.specs.Columns.{IsNumber};
 ghost use Rattle.doc_value.specs.Terms.{turned};
 ghost use Rattle.fast_fields.specs.Readers.{Holds, IsOf};
 ghost use Rattle.fast_fields.specs.declared.entries.Entry.{Entry};
-ghost use Rattle.query_ast.specs.Meaning.{values_in};
 ghost use Rattle.split_bundle.specs.Columns.{column_rows};
 ghost use Rattle.split_bundle.specs.Held.{IsHeldValue};
 ghost use Rattle.split_bundle.specs.declared.placed.Placed.{Placed};

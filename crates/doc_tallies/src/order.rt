@@ -2,7 +2,7 @@
 
 ghost use Rattle.std.specs.Prelude.{◌≡◌, None};
 ghost use Rattle.std.specs.Ordering.{is_lt};
-ghost use Rattle.query_ast.specs.Meaning.{values_in};
+ghost use Rattle.doc_value.specs.Documents.{values_in};
 ghost use Rattle.split_bundle.specs.declared.placed.Placed.{Placed};
 ghost use Rattle.doc_tallies.specs.Orders as orders;
 

@@ -1,5 +1,5 @@
 -- Which lists of fields are a schema, and which documents are of a schema.
-use Rattle.std.specs.Prelude.{◌≡◌, ◌≢◌, ℕ, suc, nat_eq, true, false, ◌<◌, ◌≤◌, List, [], ◌∷◌, ◌++◌, length, take, drop, slice_get, if◌then◌else◌, IfSome, MatchOption, Option, Some, None}
+use Rattle.std.specs.Prelude.{◌≡◌, ◌≢◌, ◌==◌, ℕ, suc, nat_eq, true, false, ◌<◌, ◌≤◌, List, [], ◌∷◌, ◌++◌, length, take, drop, slice_get, if◌then◌else◌, IfSome, MatchOption, Option, Some, None}
 use Rattle.std.specs.Ordering.{nat_cmp}
 use Rattle.std.specs.Str.{bytes_eq, IsUtf8}
 use Rattle.std.specs.Cmp.Lexicographic.{slice_cmp}
@@ -111,3 +111,8 @@ number_from n (f ∷ fs) path = if bytes_eq f.path path then Some n else number_
 -- the number of the field with this path
 abbrev pub number_of : List Field → List ℕ → Option ℕ
 number_of fields path = number_from 0 fields path
+
+-- a document's values of the field with this number
+abbrev pub values_in : List DocField → ℕ → List Value
+values_in [] number = []
+values_in (f ∷ fs) number = if f.number == number then f.values else values_in fs number

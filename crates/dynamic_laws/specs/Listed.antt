@@ -2,12 +2,12 @@
 use Rattle.std.specs.Prelude.{◌≡◌, ◌<◌, ◌^◌, ◌&&◌, ℕ, nat_eq, Bool, List, length, map, Some, None, Ok}
 use Rattle.std.specs.List.{AllByRecursion, list_any, starts_with}
 use Rattle.std.specs.Str.{bytes_eq}
-use Rattle.doc_value.specs.Documents.{IsDynamic}
+use Rattle.doc_value.specs.Documents.{IsDynamic, values_in}
 use Rattle.doc_value.specs.declared.doc.DocField.{DocField}
 use Rattle.doc_value.specs.declared.doc.Value.TheVariants as values
 use Rattle.doc_value.specs.declared.schema.Schema.{Schema}
 use Rattle.dynamic_paths.specs.LeafTexts.{Leaf, leaf_text, fits, fitting_texts}
-use Rattle.query_ast.specs.Meaning.{meaning, values_in}
+use Rattle.query_ast.specs.Meaning.{meaning}
 use Rattle.query_ast.specs.Sought.{Sought}
 use Rattle.query_reader.specs.Asking.{Asking}
 use Rattle.query_reader.specs.Resolve.{number_of, resolve_clause}

@@ -8,10 +8,10 @@ use Rattle.doc_value.specs.declared.schema.Field.{Field}
 use Rattle.doc_value.specs.declared.schema.Schema.{Schema}
 use Rattle.doc_value.specs.declared.doc.DocField.{DocField}
 use Rattle.doc_value.specs.declared.doc.Value.{Value}
-use Rattle.doc_value.specs.Documents.{IsOfSchema}
+use Rattle.doc_value.specs.Documents.{IsOfSchema, values_in}
 use Rattle.text_tokens.specs.declared.tokens.Token.{Token}
 use Rattle.query_ast.specs.FieldTokens.{field_tokens}
-use Rattle.query_ast.specs.Meaning.{meaning, values_in, is_text, is_unlimited, has_time_within, some_has_token, each_holds, phrase_holds, equals_some, word_holds, quoted_holds}
+use Rattle.query_ast.specs.Meaning.{meaning, is_text, is_unlimited, has_time_within, some_has_token, each_holds, phrase_holds, equals_some, word_holds, quoted_holds}
 use Rattle.query_ast.specs.Sought.{Sought, view}
 use Rattle.query_ast.specs.Sought as sought
 use Rattle.query_ast.specs.Spelled.{spelled}

@@ -7,7 +7,7 @@ ghost use Rattle.object_store.specs.FaultPlan.{landing_of_call, landing_of_key};
 
 use crate::given::given_behind;
 use crate::kept::Kept;
-use crate::plan::{Landing, FaultPlan};
+use crate::plan::{FaultPlan, Landing};
 use crate::{CreateError, GetError, Key, Keys, ListError, ObjectStore, Piece};
 use byte_fields::Failed;
 use std::alloc::{AllocError, Global};

@@ -23,7 +23,8 @@ use Rattle.query_ast.specs.FieldTokens.{field_tokens, tokens_by}
 use Rattle.query_ast.specs.Sought.{Sought, Soughts, no_more, more}
 use Rattle.query_ast.specs.Sought as sought
 use Rattle.query_ast.specs.declared.query.Item.{Item}
-use Rattle.query_ast.specs.Meaning.{values_in, same_value, equals_some, has_token, tokens_in, is_text, some_has_token, phrase_holds, each_holds, quoted_holds, word_holds, item_holds, some_item_holds, meaning, all_hold, some_hold}
+use Rattle.query_ast.specs.Meaning.{same_value, equals_some, has_token, tokens_in, is_text, some_has_token, phrase_holds, each_holds, quoted_holds, word_holds, item_holds, some_item_holds, meaning, all_hold, some_hold}
+use Rattle.doc_value.specs.Documents.{values_in}
 use Rattle.query_ast.specs.Spelled.{spelled, signed_of, unsigned_of, truth_of, datetime_of}
 use Rattle.query_ast.specs.Pruning.{allowed, term_of, is_raw, is_looked_up, has_list, HasTerm, can_equal, some_can_equal, can_match, all_can, some_can, AreFactsOf}
 use Rattle.doc_value.specs.Terms.{term_bytes}

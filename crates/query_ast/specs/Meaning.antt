@@ -3,6 +3,7 @@ use Rattle.std.specs.Prelude.{ℕ, ◌+◌, ◌==◌, Bool, true, false, not, �
 use Rattle.std.specs.List.{starts_with}
 use Rattle.std.specs.Option.{option_map_or}
 use Rattle.std.specs.Str.{bytes_eq}
+use Rattle.doc_value.specs.Documents.{values_in}
 use Rattle.doc_value.specs.declared.schema.Field.{Field}
 use Rattle.doc_value.specs.declared.schema.Kind.{Kind}
 use Rattle.doc_value.specs.declared.schema.Kind.TheVariants as kinds
@@ -25,11 +26,6 @@ abbrev pub is_text : Kind → Bool
 is_text kinds.Text = true
 is_text kinds.TextList = true
 is_text _ = false
-
--- the document's values of a field
-abbrev pub values_in : List DocField → ℕ → List Value
-values_in [] number = []
-values_in (f ∷ fs) number = if f.number == number then f.values else values_in fs number
 
 -- two values of one kind are equal, or in order
 abbrev pub same_value : Value → Value → Bool

@@ -21,7 +21,8 @@ use Rattle.query_ast.specs.declared.query.Query.{Query}
 use Rattle.query_ast.specs.Sought.{Sought, Soughts, no_more, more, view}
 use Rattle.query_ast.specs.Sought as sought
 use Rattle.query_ast.specs.Spelled.{spelled}
-use Rattle.query_ast.specs.Meaning.{is_text, values_in}
+use Rattle.query_ast.specs.Meaning.{is_text}
+use Rattle.doc_value.specs.Documents.{values_in}
 
 -- some listed term is this one
 abbrev pub is_listed : List ℕ → List (List ℕ) → Bool

@@ -5,7 +5,8 @@ ghost use Rattle.std.specs.List.{starts_with};
 ghost use Rattle.query_ast.specs.FieldTokens.{field_tokens};
 ghost use Rattle.query_ast.specs.Sought.{view};
 ghost use Rattle.query_ast.specs.Sought as sought;
-ghost use Rattle.query_ast.specs.Meaning.{values_in, same_value, value_below, is_above, is_below, between, equals_some, has_token, has_prefix, has_token_at, stands_at, stands_at_one, first_position, tokens_in, is_text, some_has_token, some_has_prefix, some_has_phrase, each_stands, phrase_holds, quoted_holds, word_holds, item_holds, some_item_holds, meaning, all_in, some_in, from_start, before_end, second_within, some_within, has_time_within, within_times};
+ghost use Rattle.query_ast.specs.Meaning.{same_value, value_below, is_above, is_below, between, equals_some, has_token, has_prefix, has_token_at, stands_at, stands_at_one, first_position, tokens_in, is_text, some_has_token, some_has_prefix, some_has_phrase, each_stands, phrase_holds, quoted_holds, word_holds, item_holds, some_item_holds, meaning, all_in, some_in, from_start, before_end, second_within, some_within, has_time_within, within_times};
+ghost use Rattle.doc_value.specs.Documents.{values_in};
 
 use crate::fields::field_at;
 use crate::query::{Edge, Item, Query};

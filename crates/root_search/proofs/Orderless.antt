@@ -12,7 +12,8 @@ use Rattle.meta_store.proofs.Lists.{IsPermutation-filter, IsPermutation-flat_map
 use Rattle.doc_value.specs.declared.doc.DocField.{DocField}
 use Rattle.agg_metrics.specs.Metrics.{IsMetricOf, IsWhole, total, lowest, highest}
 use Rattle.agg_metrics.specs.declared.metric_part.MetricPart.{MetricPart}
-use Rattle.agg_model.specs.Counting.{values_in, first_whole}
+use Rattle.agg_model.specs.Counting.{first_whole}
+use Rattle.doc_value.specs.Documents.{values_in}
 use Rattle.agg_model.specs.Partials.{CountsFor, StandsFor}
 use Rattle.agg_model.specs.declared.counts.Counts.{Counts}
 use Rattle.agg_model.specs.declared.partial.Partial.{Partial}

@@ -17,7 +17,8 @@ use Rattle.doc_value.specs.declared.schema.Field.{Field}
 use Rattle.doc_value.specs.declared.schema.Schema.{Schema}
 use Rattle.doc_value.specs.Terms.{term_bytes}
 use Rattle.text_tokens.specs.Tokens.{max_token}
-use Rattle.query_ast.specs.Meaning.{values_in, meaning, from_start, before_end, some_within, has_time_within, is_unlimited, within_times}
+use Rattle.query_ast.specs.Meaning.{meaning, from_start, before_end, some_within, has_time_within, is_unlimited, within_times}
+use Rattle.doc_value.specs.Documents.{values_in}
 use Rattle.query_ast.specs.Pruning.{allowed, allows, can_match, is_listed, AreFactsOf, HasTerm}
 use Rattle.query_ast.specs.Sought.{view}
 use Rattle.query_ast.proofs.RuledOut.{ruled_out}

@@ -10,8 +10,7 @@ use Rattle.doc_value.specs.declared.schema.Kind.TheVariants as kinds
 use Rattle.doc_value.specs.declared.doc.Value.{Value}
 use Rattle.doc_value.specs.declared.doc.Value.TheVariants as values
 use Rattle.doc_value.specs.declared.doc.DocField.{DocField}
-use Rattle.doc_value.specs.Documents.{IsOfKind}
-use Rattle.query_ast.specs.Meaning.{values_in}
+use Rattle.doc_value.specs.Documents.{IsOfKind, values_in}
 use Rattle.fast_fields.specs.declared.entries.Entry.{Entry}
 use Rattle.fast_fields.specs.declared.rows.ColumnRow.{ColumnRow}
 use Rattle.fast_fields.specs.Columns.{AreEntries, AreGrown, AreTexts, Cell, DocumentsRise, Fits, IsNumber, IsSpelled, SomeText, cells, cells_of, has_texts}

@@ -5,7 +5,7 @@ use Rattle.std.specs.Coded.{×_prop, Unit-prop}
 use Rattle.std.specs.Prelude.{slice_get, slice_index, MatchOption, IfSome}
 use Rattle.std.specs.List.{AllByRecursion}
 use base.Stored.{Coded-set}
-use Rattle.doc_value.specs.Documents.{IsBefore, PathsRise, IsTimestamp, IsDynamic, IsSchema, max_fields}
+use Rattle.doc_value.specs.Documents.{IsBefore, PathsRise, IsTimestamp, IsDynamic, IsSchema, max_fields, values_in}
 use Rattle.doc_value.specs.contracts.schema.Kind as kind_row
 use Rattle.doc_value.specs.contracts.schema.Tokenizer as tokenizer_row
 use Rattle.doc_value.specs.declared.doc.DocField.{DocField}
@@ -19,7 +19,6 @@ use Rattle.doc_value.specs.declared.schema.Tokenizer.{Tokenizer}
 use Rattle.doc_value.specs.declared.schema.Tokenizer.TheVariants as tokenizers
 use Rattle.fast_fields.specs.Columns.{DocumentsRise, Fits, TextsRise}
 use Rattle.fast_fields.specs.declared.entries.Entry.{Entry}
-use Rattle.query_ast.specs.Meaning.{values_in}
 use Rattle.term_dict.specs.Keys.{is_below}
 use Rattle.term_postings.specs.declared.list.Posting.{Posting}
 use Rattle.term_postings.specs.Postings.{AreRising, MayHave}

@@ -12,12 +12,11 @@ use Rattle.doc_value.specs.declared.schema.Schema.{Schema}
 use Rattle.doc_value.specs.declared.doc.Value.{Value}
 use Rattle.doc_value.specs.declared.doc.Value.TheVariants as values
 use Rattle.doc_value.specs.declared.doc.DocField.{DocField}
-use Rattle.doc_value.specs.Documents.{IsSchema}
+use Rattle.doc_value.specs.Documents.{IsSchema, values_in}
 use Rattle.doc_value.specs.Terms.{term_bytes}
 use Rattle.text_tokens.specs.declared.tokens.Token.{Token}
 use Rattle.term_postings.specs.Postings.{AreRising}
 use Rattle.query_ast.specs.FieldTokens.{field_tokens}
-use Rattle.query_ast.specs.Meaning.{values_in}
 use Rattle.split_bundle.specs.Keys.{Occurrence, field_key, presence_key, value_place, of_tokens, of_value, of_values, of_presence, of_field, of_fields, keys_of}
 use Rattle.split_bundle.specs.Lists.{places_of, keeps_places}
 use Rattle.split_build.specs.Walks.{IsShort, IsShortDoc}

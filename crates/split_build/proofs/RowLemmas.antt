@@ -8,8 +8,7 @@ use Rattle.doc_value.specs.declared.schema.Kind.{Kind}
 use Rattle.doc_value.specs.declared.schema.Schema.{Schema}
 use Rattle.doc_value.specs.declared.doc.Value.{Value}
 use Rattle.doc_value.specs.declared.doc.DocField.{DocField}
-use Rattle.doc_value.specs.Documents.{IsOfSchema, FitsFrom, FitsField, AreOfKind, IsOfKind}
-use Rattle.query_ast.specs.Meaning.{values_in}
+use Rattle.doc_value.specs.Documents.{IsOfSchema, FitsFrom, FitsField, AreOfKind, IsOfKind, values_in}
 use Rattle.fast_fields.specs.declared.rows.ColumnRow.{ColumnRow}
 use Rattle.fast_fields.specs.Columns.{AreRows, RowsRise, Cell, cells, cells_of}
 use Rattle.split_bundle.specs.declared.placed.Placed.{Placed}

@@ -17,7 +17,7 @@ use Rattle.split_build.proofs.DocumentLemmas.{among_more, among_end}
 use Rattle.split_build.proofs.TakenLemmas.{terms_more}
 use Rattle.doc_value.specs.declared.doc.DocField.{DocField}
 use Rattle.doc_value.specs.declared.doc.Value.{Value}
-use Rattle.query_ast.specs.Meaning.{values_in}
+use Rattle.doc_value.specs.Documents.{values_in}
 use Rattle.split_build.proofs.RisingLemmas.{with_among, among_with, among_new, with_rises, with_grows}
 
 among_cases : (ts : List (List ℕ)) (t x : List ℕ) → IsAmong (ts ++ t ∷ []) x → (t ≡ x) ⊎ IsAmong ts x

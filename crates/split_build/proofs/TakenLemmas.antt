@@ -6,8 +6,7 @@ use Rattle.std.specs.List.{AllByRecursion, flat_map}
 use Rattle.doc_value.specs.declared.schema.Schema.{Schema}
 use Rattle.doc_value.specs.declared.doc.Value.{Value}
 use Rattle.doc_value.specs.declared.doc.Value.TheVariants as values
-use Rattle.doc_value.specs.Documents.{IsOfSchema}
-use Rattle.query_ast.specs.Meaning.{values_in}
+use Rattle.doc_value.specs.Documents.{IsOfSchema, values_in}
 use Rattle.split_bundle.specs.declared.placed.Placed.{Placed}
 use Rattle.split_bundle.specs.Documents.{weight, total_weight}
 use Rattle.split_bundle.specs.Held.{IsHeld}

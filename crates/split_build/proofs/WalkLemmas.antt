@@ -8,9 +8,8 @@ use Rattle.doc_value.specs.declared.schema.Field.{Field}
 use Rattle.doc_value.specs.declared.doc.Value.{Value}
 use Rattle.doc_value.specs.declared.doc.Value.TheVariants as values
 use Rattle.doc_value.specs.declared.doc.DocField.{DocField}
-use Rattle.doc_value.specs.Documents.{IsSchema}
+use Rattle.doc_value.specs.Documents.{IsSchema, values_in}
 use Rattle.doc_value.specs.Terms.{term_bytes}
-use Rattle.query_ast.specs.Meaning.{values_in}
 use Rattle.split_bundle.specs.Keys.{Occurrence, field_key, presence_key, value_place, of_value, of_values, of_field, of_fields}
 use Rattle.std.proofs.lemmas.List.{append-nil}
 use Rattle.doc_value.specs.declared.schema.Schema.{Schema}

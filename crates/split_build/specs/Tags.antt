@@ -4,7 +4,7 @@ use Rattle.std.specs.List.{flat_map}
 use Rattle.doc_value.specs.declared.facts.Tags.{Tags}
 use Rattle.doc_value.specs.declared.facts.Tags.TheVariants.{Many, Listed}
 use Rattle.doc_value.specs.declared.facts.FieldTags.{FieldTags}
-use Rattle.query_ast.specs.Meaning.{values_in}
+use Rattle.doc_value.specs.Documents.{values_in}
 use Rattle.split_bundle.specs.declared.placed.Placed.{Placed}
 use Rattle.split_bundle.specs.Splits.{AreRising}
 use Rattle.split_bundle.specs.Tagged.{max_tags, value_term}

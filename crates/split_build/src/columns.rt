@@ -2,7 +2,7 @@
 
 ghost use Rattle.std.specs.Prelude.{◌≡◌, ◌++◌, ◌∷◌, [], ℕ, List, IfOk, OnOk, Some, slice_get};
 ghost use Rattle.std.specs.List.{AllByRecursion};
-ghost use Rattle.query_ast.specs.Meaning.{values_in};
+ghost use Rattle.doc_value.specs.Documents.{values_in};
 ghost use Rattle.fast_fields.specs.Columns.{Cell, cells_of};
 ghost use Rattle.split_build.specs.HeldColumns.{HasCells, IsNumbered, texts_of};
 

@@ -11,7 +11,7 @@ use Rattle.doc_value.specs.declared.doc.Value.TheVariants as values
 use Rattle.doc_value.specs.declared.schema.Field.{Field}
 use Rattle.doc_value.specs.declared.schema.Schema.{Schema}
 use Rattle.query_ast.specs.FieldTokens.{field_tokens}
-use Rattle.query_ast.specs.Meaning.{values_in}
+use Rattle.doc_value.specs.Documents.{values_in}
 use Rattle.text_tokens.specs.declared.tokens.Token.{Token}
 use Rattle.term_dict.specs.Keys.{is_below}
 use Rattle.term_dict.proofs.Orders.{below_not}

@@ -8,7 +8,8 @@ use Rattle.doc_value.specs.declared.doc.Value.{Value}
 use Rattle.doc_value.specs.declared.doc.Value.TheVariants as values
 use Rattle.doc_value.specs.declared.schema.Field.{Field}
 use Rattle.doc_value.specs.declared.schema.Schema.{Schema}
-use Rattle.query_ast.specs.Meaning.{values_in, tokens_in}
+use Rattle.query_ast.specs.Meaning.{tokens_in}
+use Rattle.doc_value.specs.Documents.{values_in}
 use Rattle.term_dict.proofs.Areas.{varint_some}
 use Rattle.split_bundle.specs.declared.placed.Placed.{Placed}
 use Rattle.split_bundle.specs.Documents.{value_bytes, field_bytes, doc_bytes, weight, total_weight}

@@ -7,7 +7,7 @@ use Rattle.doc_value.specs.declared.facts.Tags.{Tags}
 use Rattle.doc_value.specs.declared.facts.Tags.TheVariants.{Many, Listed}
 use Rattle.doc_value.specs.declared.facts.FieldTags.{FieldTags}
 use Rattle.doc_value.specs.declared.schema.Field.{Field}
-use Rattle.query_ast.specs.Meaning.{values_in}
+use Rattle.doc_value.specs.Documents.{values_in}
 use Rattle.split_states.specs.declared.facts.Times.{Times}
 use Rattle.split_bundle.specs.declared.placed.Placed.{Placed}
 use Rattle.split_bundle.specs.Tagged.{max_tags, second_of, tag_numbers, value_term}

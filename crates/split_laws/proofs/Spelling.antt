@@ -20,7 +20,7 @@ use Rattle.doc_value.specs.declared.facts.Tags.TheVariants.{Listed, Many}
 use Rattle.doc_value.specs.declared.schema.Field.{Field}
 use Rattle.doc_value.specs.declared.schema.Schema.{Schema}
 use Rattle.meta_journal.specs.Spelling.{IsTime, IsString, IsIfGiven, CanSpellTimes, CanSpellTags, CanSpellField, CanSpellFacts, IsTermBelow, IsFieldBelow, IsBehind, Rises, RisesFrom}
-use Rattle.query_ast.specs.Meaning.{values_in}
+use Rattle.doc_value.specs.Documents.{values_in}
 use Rattle.split_build.specs.Builders.{IsBuilt}
 use Rattle.split_states.specs.declared.facts.RowFacts.{RowFacts}
 use Rattle.split_states.specs.declared.facts.Times.{Times}

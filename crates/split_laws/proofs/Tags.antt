@@ -8,7 +8,7 @@ use Rattle.doc_value.specs.declared.facts.Tags.{Tags}
 use Rattle.doc_value.specs.declared.facts.Tags.TheVariants.{Many, Listed}
 use Rattle.doc_value.specs.declared.facts.FieldTags.{FieldTags}
 use Rattle.doc_value.specs.declared.schema.Field.{Field}
-use Rattle.query_ast.specs.Meaning.{values_in}
+use Rattle.doc_value.specs.Documents.{values_in}
 use Rattle.term_dict.specs.Keys.{is_below}
 use Rattle.fast_fields.proofs.Below.{below_then, below_itself}
 use Rattle.split_bundle.specs.declared.placed.Placed.{Placed}

@@ -3,7 +3,7 @@ use Rattle.std.proofs.Common.{◌≡◌, ℕ, ◌-◌, List, [], ◌∷◌, ◌+
 use Rattle.std.proofs.lemmas.List.{append-nil, map_push}
 use Rattle.doc_value.specs.declared.doc.DocField.{DocField}
 use Rattle.doc_value.specs.declared.doc.Value.{Value}
-use Rattle.query_ast.specs.Meaning.{values_in}
+use Rattle.doc_value.specs.Documents.{values_in}
 use Rattle.fast_fields.specs.Columns.{Cell, cells, cells_of}
 use Rattle.split_bundle.specs.declared.placed.Placed.{Placed}
 use Rattle.fast_fields.specs.declared.rows.ColumnRow.{ColumnRow}

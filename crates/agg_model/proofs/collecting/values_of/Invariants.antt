@@ -1,5 +1,5 @@
 use Rattle.std.proofs.Common.{◌≡◌, drop}
-use Rattle.agg_model.specs.Counting.{values_in}
+use Rattle.doc_value.specs.Documents.{values_in}
 use Rattle.agg_model.proofs.collecting.values_of.Given as goal
 
 abbrev pub invariant-loop-part : goal.invariant-loop-part

@@ -1,6 +1,7 @@
 use Rattle.std.proofs.Common.{◌∙◌, sym, ap}
 use Rattle.std.specs.List.{list_any}
-use Rattle.agg_model.specs.Counting.{values_in, first_whole}
+use Rattle.agg_model.specs.Counting.{first_whole}
+use Rattle.doc_value.specs.Documents.{values_in}
 use Rattle.agg_nested.specs.Buckets.{group_at}
 use Rattle.agg_nested.specs.Spots.{Spot, same_spot}
 use Rattle.agg_nested.proofs.Joining.{ok_then}

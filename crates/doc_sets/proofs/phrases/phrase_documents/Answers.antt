@@ -2,7 +2,8 @@ use Rattle.doc_sets.specs.Reads.{ReadsAll}
 use Rattle.doc_sets.proofs.ReadLookups.{phrase_reads}
 use Rattle.doc_sets.specs.declared.dictionary_lookup.Lookup.TheVariants.{Documents}
 use Rattle.std.proofs.Common.{◌≡◌, ◌∙◌, ◌≤◌, ◌∷◌, [], ℕ, List, true, false, length, MatchResult, ap, sym, subst, arith, Ok}
-use Rattle.query_ast.specs.Meaning.{first_position, phrase_holds, some_has_token, values_in}
+use Rattle.query_ast.specs.Meaning.{first_position, phrase_holds, some_has_token}
+use Rattle.doc_value.specs.Documents.{values_in}
 use Rattle.split_bundle.specs.Keys.{field_key}
 use Rattle.text_tokens.specs.declared.tokens.Token.{Token}
 use Rattle.doc_sets.specs.Asked.{AllNear, are_close}

@@ -1,6 +1,6 @@
 use Rattle.std.proofs.Common.{◌∙◌, ℕ, List, sym, subst, arith}
-use Rattle.doc_value.specs.Documents.{IsOfSchema}
-use Rattle.query_ast.specs.Meaning.{each_stands, phrase_holds, values_in}
+use Rattle.doc_value.specs.Documents.{IsOfSchema, values_in}
+use Rattle.query_ast.specs.Meaning.{each_stands, phrase_holds}
 use Rattle.split_bundle.specs.Keys.{keys_of}
 use Rattle.doc_sets.specs.Asked.{AllNear, has_each, has_run}
 use Rattle.doc_sets.specs.Faults.{IsMemory}

@@ -2,7 +2,8 @@ use Rattle.doc_sets.proofs.ReadLookups.{each_reads}
 use Rattle.doc_sets.specs.Reads.{ReadsAll}
 use Rattle.std.proofs.Common.{◌≡◌, ◌∙◌, ◌<◌, List, length, sym, subst, MatchResult}
 use Rattle.query_ast.specs.FieldTokens.{field_tokens}
-use Rattle.query_ast.specs.Meaning.{each_holds, each_stands, values_in}
+use Rattle.query_ast.specs.Meaning.{each_holds, each_stands}
+use Rattle.doc_value.specs.Documents.{values_in}
 use Rattle.text_tokens.specs.declared.tokens.Token.{Token}
 use Rattle.doc_sets.specs.Asking.{LacksLookups}
 use Rattle.doc_sets.specs.Needed.{LacksKeys, token_keys}

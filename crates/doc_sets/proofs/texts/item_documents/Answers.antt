@@ -1,5 +1,6 @@
 use Rattle.std.proofs.Common.{List, ℕ, subst, sym, MatchResult}
-use Rattle.query_ast.specs.Meaning.{quoted_holds, word_holds, values_in}
+use Rattle.query_ast.specs.Meaning.{quoted_holds, word_holds}
+use Rattle.doc_value.specs.Documents.{values_in}
 use Rattle.doc_sets.specs.Asking.{LacksLookups}
 use Rattle.doc_sets.specs.Sets.{IsSetOf}
 use Rattle.doc_sets.specs.Texts.{text_lookups}

@@ -1,7 +1,8 @@
 use Rattle.doc_sets.specs.Reads.{ReadsAll}
 use Rattle.std.proofs.Common.{◌≡◌, ◌∙◌, ◌≤◌, ◌⊎◌, true, List, length, sym, subst, MatchResult}
 use Rattle.query_ast.specs.FieldTokens.{field_tokens}
-use Rattle.query_ast.specs.Meaning.{phrase_holds, values_in}
+use Rattle.query_ast.specs.Meaning.{phrase_holds}
+use Rattle.doc_value.specs.Documents.{values_in}
 use Rattle.text_tokens.specs.declared.tokens.Token.{Token}
 use Rattle.doc_sets.specs.Asked.{AreBehindFirst}
 use Rattle.doc_sets.specs.Asking.{LacksLookups}

@@ -1,7 +1,8 @@
 use Rattle.doc_sets.proofs.ReadLookups.{items_from, meets_first, meets_others, met, met_wider, read_both}
 use Rattle.doc_sets.specs.Reads.{AreRead, SomeMeets}
 use Rattle.std.proofs.Common.{◌∙◌, ◌||◌, ap, sym, ◌+◌, false, refl, subst, drop}
-use Rattle.query_ast.specs.Meaning.{item_holds, some_item_holds, values_in}
+use Rattle.query_ast.specs.Meaning.{item_holds, some_item_holds}
+use Rattle.doc_value.specs.Documents.{values_in}
 use Rattle.doc_sets.specs.Asking.{LacksLookups}
 use Rattle.doc_sets.specs.Sets.{IsSetOf}
 use Rattle.doc_sets.specs.Texts.{item_lookups, text_lookups}

@@ -1,7 +1,8 @@
 use Rattle.std.proofs.Common.{◌≡◌, ◌||◌, Bool, true, Some, slice_get, List, drop}
 use Rattle.doc_value.specs.declared.doc.DocField.{DocField}
 use Rattle.doc_value.specs.declared.schema.Schema.{Schema}
-use Rattle.query_ast.specs.Meaning.{some_item_holds, values_in}
+use Rattle.query_ast.specs.Meaning.{some_item_holds}
+use Rattle.doc_value.specs.Documents.{values_in}
 use Rattle.split_bundle.specs.declared.placed.Placed.{Placed}
 use Rattle.split_bundle.specs.Files.{Parts}
 use Rattle.doc_sets.specs.Needed.{IsSearched}

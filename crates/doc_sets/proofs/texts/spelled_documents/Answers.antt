@@ -1,6 +1,7 @@
 use Rattle.std.proofs.Common.{◌≡◌, ◌∙◌, Option, Some, sym, subst, MatchResult}
 use Rattle.doc_value.specs.declared.doc.Value.{Value}
-use Rattle.query_ast.specs.Meaning.{equals_some, values_in}
+use Rattle.query_ast.specs.Meaning.{equals_some}
+use Rattle.doc_value.specs.Documents.{values_in}
 use Rattle.query_ast.specs.Spelled.{spelled}
 use Rattle.doc_sets.specs.Asking.{LacksLookups}
 use Rattle.doc_sets.specs.Needed.{LacksKeys}

@@ -1,5 +1,6 @@
 use Rattle.std.proofs.Common.{◌≡◌, ◌∙◌, [], ◌∷◌, Bool, false, MatchResult, ap, if◌then◌else◌, sym, subst}
-use Rattle.query_ast.specs.Meaning.{between, values_in}
+use Rattle.query_ast.specs.Meaning.{between}
+use Rattle.doc_value.specs.Documents.{values_in}
 use Rattle.split_bundle.specs.Keys.{field_key}
 use Rattle.doc_sets.specs.Asking.{LacksLookups}
 use Rattle.doc_sets.specs.Faults.{LacksPart}

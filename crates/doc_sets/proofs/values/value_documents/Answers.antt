@@ -2,9 +2,9 @@ use Rattle.doc_sets.specs.declared.dictionary_lookup.Lookup.TheVariants.{Documen
 use Rattle.doc_sets.proofs.ReadLookups.{key_reads}
 use Rattle.doc_sets.specs.Reads.{ReadsAll}
 use Rattle.std.proofs.Common.{◌≡◌, ◌∙◌, ◌∷◌, [], Some, ap, sym, subst, arith}
-use Rattle.doc_value.specs.Documents.{IsOfSchema}
+use Rattle.doc_value.specs.Documents.{IsOfSchema, values_in}
 use Rattle.doc_value.specs.Terms.{term_bytes}
-use Rattle.query_ast.specs.Meaning.{equals_some, values_in}
+use Rattle.query_ast.specs.Meaning.{equals_some}
 use Rattle.split_bundle.specs.Keys.{field_key, keys_of}
 use Rattle.split_bundle.specs.Lists.{has_key, keeps_places}
 use Rattle.doc_sets.specs.Needed.{LacksKeys}

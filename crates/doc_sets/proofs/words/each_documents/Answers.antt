@@ -4,9 +4,9 @@ use Rattle.doc_sets.specs.Reads.{AreRead, MetBy, SomeMeets}
 use Rattle.std.proofs.Common.{◌∙◌, ◌&&◌, ◌∷◌, [], sym, ap, subst, ◌+◌, true, refl, drop, map, inr}
 use Rattle.doc_sets.specs.Needed.{AsksKey, LacksKeys, token_keys}
 use Rattle.doc_sets.specs.Sets.{IsSetOf}
-use Rattle.query_ast.specs.Meaning.{some_has_token, each_stands, values_in}
+use Rattle.query_ast.specs.Meaning.{some_has_token, each_stands}
 use Rattle.split_bundle.specs.Keys.{field_key}
-use Rattle.doc_value.specs.Documents.{IsOfSchema}
+use Rattle.doc_value.specs.Documents.{IsOfSchema, values_in}
 use Rattle.doc_sets.proofs.SetLemmas.{set_same}
 use Rattle.doc_sets.proofs.Causes.{handed_on, token_lacks}
 use Rattle.doc_sets.proofs.Steps.{token_step, and_true, none_behind}

@@ -1,7 +1,8 @@
 use Rattle.std.proofs.Common.{◌≡◌, ◌&&◌, Bool, true, Some, slice_get, List, drop, map}
 use Rattle.doc_value.specs.declared.doc.DocField.{DocField}
 use Rattle.doc_value.specs.declared.schema.Schema.{Schema}
-use Rattle.query_ast.specs.Meaning.{each_stands, values_in, is_text}
+use Rattle.query_ast.specs.Meaning.{each_stands, is_text}
+use Rattle.doc_value.specs.Documents.{values_in}
 use Rattle.split_bundle.specs.declared.placed.Placed.{Placed}
 use Rattle.split_bundle.specs.Files.{Parts}
 use Rattle.doc_sets.specs.Needed.{IsSearched, token_keys}

@@ -1,7 +1,7 @@
 use Rattle.std.proofs.Common.{◌+◌, ◌-◌, ◌∷◌, [], ◌++◌, List, ap, ◌∙◌, arith}
 use Rattle.std.proofs.lemmas.List.{take_all}
 use Rattle.doc_value.specs.declared.doc.Value.{Value}
-use Rattle.query_ast.specs.Meaning.{values_in}
+use Rattle.doc_value.specs.Documents.{values_in}
 use Rattle.split_bundle.specs.Held.{IsHeldValue}
 use Rattle.doc_tallies.proofs.FieldValues.{each_at, kind_at}
 use Rattle.doc_tallies.proofs.Owned.{owned, place_of, past_all}

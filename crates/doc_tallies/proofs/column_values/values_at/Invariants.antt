@@ -1,8 +1,7 @@
 use Rattle.std.proofs.Common.{◌≡◌, ◌-◌, List, Some, slice_get, take}
 use Rattle.std.specs.List.{AllByRecursion}
-use Rattle.doc_value.specs.Documents.{AreOfKind}
+use Rattle.doc_value.specs.Documents.{AreOfKind, values_in}
 use Rattle.fast_fields.specs.Readers.{IsOf}
-use Rattle.query_ast.specs.Meaning.{values_in}
 use Rattle.split_bundle.specs.Columns.{column_rows}
 use Rattle.split_bundle.specs.Held.{IsHeldValue}
 use Rattle.split_bundle.specs.declared.placed.Placed.{Placed}

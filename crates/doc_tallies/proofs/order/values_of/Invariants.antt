@@ -1,5 +1,5 @@
 use Rattle.std.proofs.Common.{◌≡◌, drop}
-use Rattle.query_ast.specs.Meaning.{values_in}
+use Rattle.doc_value.specs.Documents.{values_in}
 use Rattle.doc_tallies.proofs.order.values_of.Given as goal
 
 abbrev pub invariant-loop-part : goal.invariant-loop-part

@@ -1,5 +1,6 @@
 use Rattle.std.proofs.Common.{◌≡◌, ◌∷◌, [], true, Some, slice_get}
-use Rattle.query_ast.specs.Meaning.{is_text, some_has_prefix, values_in}
+use Rattle.query_ast.specs.Meaning.{is_text, some_has_prefix}
+use Rattle.doc_value.specs.Documents.{values_in}
 use Rattle.query_ast.specs.FieldTokens.{prefix_text}
 use Rattle.split_bundle.specs.Keys.{field_key}
 use Rattle.doc_sets.specs.Asking.{LacksLookups}

@@ -1,6 +1,7 @@
 use Rattle.leaf_search.proofs.ReadQueries.{field_reads, no_field_reads}
 use Rattle.std.proofs.Common.{◌≡◌, true, Some, slice_get}
-use Rattle.query_ast.specs.Meaning.{quoted_holds, values_in}
+use Rattle.query_ast.specs.Meaning.{quoted_holds}
+use Rattle.doc_value.specs.Documents.{values_in}
 use Rattle.doc_sets.specs.Texts.{text_lookups}
 use Rattle.query_ast.specs.Askable.{CanPlace}
 use Rattle.leaf_search.proofs.QuerySteps.{at_field, field_fact, no_field}

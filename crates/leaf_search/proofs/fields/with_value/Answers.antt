@@ -1,5 +1,6 @@
 use Rattle.std.proofs.Common.{◌≡◌, ◌∷◌, [], true, Some, slice_get}
-use Rattle.query_ast.specs.Meaning.{is_there, values_in}
+use Rattle.query_ast.specs.Meaning.{is_there}
+use Rattle.doc_value.specs.Documents.{values_in}
 use Rattle.split_bundle.specs.Keys.{presence_key}
 use Rattle.doc_sets.specs.Asking.{LacksLookups}
 use Rattle.doc_sets.specs.Needed.{LacksKeys}

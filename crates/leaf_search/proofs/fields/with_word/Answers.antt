@@ -1,6 +1,7 @@
 use Rattle.leaf_search.proofs.ReadQueries.{field_reads, no_field_reads}
 use Rattle.std.proofs.Common.{◌≡◌, true, Some, slice_get}
-use Rattle.query_ast.specs.Meaning.{word_holds, values_in}
+use Rattle.query_ast.specs.Meaning.{word_holds}
+use Rattle.doc_value.specs.Documents.{values_in}
 use Rattle.doc_sets.specs.Texts.{text_lookups}
 use Rattle.leaf_search.proofs.QuerySteps.{at_field, field_fact, no_field}
 use Rattle.leaf_search.proofs.fields.with_word.Goals as goal

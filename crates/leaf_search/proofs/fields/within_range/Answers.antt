@@ -1,5 +1,6 @@
 use Rattle.std.proofs.Common.{◌≡◌, ◌∷◌, [], true, Some, slice_get}
-use Rattle.query_ast.specs.Meaning.{between, values_in}
+use Rattle.query_ast.specs.Meaning.{between}
+use Rattle.doc_value.specs.Documents.{values_in}
 use Rattle.query_ast.specs.Queries.{has_order}
 use Rattle.doc_sets.specs.Ranged.{range_lookup}
 use Rattle.leaf_search.proofs.ReadQueries.{field_reads, no_field_reads}

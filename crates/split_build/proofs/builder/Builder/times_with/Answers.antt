@@ -1,5 +1,5 @@
 use Rattle.std.proofs.Common.{◌∙◌, List, ap}
-use Rattle.query_ast.specs.Meaning.{values_in}
+use Rattle.doc_value.specs.Documents.{values_in}
 use Rattle.doc_value.specs.declared.doc.DocField.{DocField}
 use Rattle.split_build.proofs.TakenLemmas.{times_none, times_some}
 use Rattle.split_build.proofs.builder.Builder.times_with.Goals as goal

@@ -1,7 +1,7 @@
 use Rattle.std.proofs.Common.{◌∙◌, ◌++◌, ◌∷◌, [], List, ap, subst}
 use Rattle.std.proofs.lemmas.List.{nil_from_length}
 use Rattle.doc_value.specs.declared.doc.Value.{Value}
-use Rattle.query_ast.specs.Meaning.{values_in}
+use Rattle.doc_value.specs.Documents.{values_in}
 use Rattle.fast_fields.specs.Columns.{Cell, cells_of}
 use Rattle.split_build.specs.HeldColumns.{HasCells, texts_of}
 use Rattle.split_build.proofs.OnWay.{IsOnWay, begin, go_on, arrive}

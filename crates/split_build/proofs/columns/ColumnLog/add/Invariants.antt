@@ -1,5 +1,5 @@
 use Rattle.std.proofs.Common.{◌≡◌, ◌++◌, List, length}
-use Rattle.query_ast.specs.Meaning.{values_in}
+use Rattle.doc_value.specs.Documents.{values_in}
 use Rattle.fast_fields.specs.Columns.{Cell, cells_of}
 use Rattle.split_build.specs.HeldColumns.{HasCells, texts_of}
 use Rattle.split_build.proofs.OnWay.{IsOnWay}
