@@ -2,7 +2,7 @@ ghost use Rattle.std.specs.Prelude.{◌≡◌};
 ghost use Rattle.index_config.specs.Tables as spec;
 
 use crate::names::is_same;
-use crate::rule::{FieldType, RulePlace, PolicyType};
+use crate::rule::{FieldType, PolicyType, RulePlace};
 
 /// Whether a table knows a key.
 pub fn is_known(place: RulePlace, key: &[u8]) -> bool

@@ -11,7 +11,7 @@ use crate::config_error::ConfigError;
 use crate::keys::is_known;
 use crate::names::{member_path, policy_named, type_named, under};
 use crate::raw::Faults;
-use crate::rule::{Ask, FieldType, RulePlace, PolicyType, Rule, Section};
+use crate::rule::{Ask, FieldType, PolicyType, Rule, RulePlace, Section};
 use doc_value::Text;
 use std::alloc::{AllocError, Global};
 use std::mem;

@@ -180,7 +180,11 @@ fn assign<L: SourceLog>(indexer: &mut Indexer<L>, partitions: Partitions) -> Opt
 }
 
 // The place of a client's searcher, where the client was named before.
-fn place_of(clients: &[Searcher], places: &BTreeMap<Client, usize>, client: &Client) -> Option<usize>
+fn place_of(
+    clients: &[Searcher],
+    places: &BTreeMap<Client, usize>,
+    client: &Client,
+) -> Option<usize>
     ensures within { IfSome result (λ place. place < length clients.now) }
     ensures exact { (names : List (List ℕ)) → length names ≡ length clients.now → HasPlaces places.now.entries names →
         result ≡ place_in client.now names }

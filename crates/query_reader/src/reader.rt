@@ -347,7 +347,12 @@ fn spaced(alloc: Global, text: &[u8], field: Span, from: usize) -> Result<Operan
 }
 
 /// What stands behind the `I` of an `IN`.
-fn letter_n(alloc: Global, text: &[u8], field: Span, from: usize) -> Result<Operand, QuerySyntaxError>
+fn letter_n(
+    alloc: Global,
+    text: &[u8],
+    field: Span,
+    from: usize,
+) -> Result<Operand, QuerySyntaxError>
     requires { from < length text.now }
     ensures end { IfOk result (λ o. (from < o.end) × (o.end ≤ length text.now)) }
     ensures read { Reads text.now (letter_rest text.now field from (from + 1)) result }
@@ -380,7 +385,12 @@ fn fielded(alloc: Global, text: &[u8], field: Span, at: usize) -> Result<Operand
     }
 }
 
-fn fielded_word(alloc: Global, text: &[u8], field: Span, at: usize) -> Result<Operand, QuerySyntaxError>
+fn fielded_word(
+    alloc: Global,
+    text: &[u8],
+    field: Span,
+    at: usize,
+) -> Result<Operand, QuerySyntaxError>
     requires within { at < length text.now }
     requires begins { (kind_of (slice_index text.now at) ≡ Plain) ⊎ (kind_of (slice_index text.now at) ≡ Escape) }
     ensures end { IfOk result (λ o. (at < o.end) × (o.end ≤ length text.now)) }
@@ -441,7 +451,12 @@ fn named(alloc: Global, text: &[u8], from: usize, scan: Scan) -> Result<Operand,
 
 /// The operand that begins at the place, `depth` brackets, `NOT`s and signs deep.
 #[cycle(reader)]
-fn operand_at(alloc: Global, text: &[u8], at: usize, depth: usize) -> Result<Operand, QuerySyntaxError>
+fn operand_at(
+    alloc: Global,
+    text: &[u8],
+    at: usize,
+    depth: usize,
+) -> Result<Operand, QuerySyntaxError>
     requires within { at ≤ length text.now }
     requires depth { depth ≤ 64 }
     ensures end { IfOk result (λ o. (at < o.end) × (o.end ≤ length text.now)) }
@@ -504,7 +519,12 @@ fn negated_operand(
 
 /// An operand whose first byte begins a word.
 #[cycle(reader)]
-fn word_operand(alloc: Global, text: &[u8], at: usize, depth: usize) -> Result<Operand, QuerySyntaxError>
+fn word_operand(
+    alloc: Global,
+    text: &[u8],
+    at: usize,
+    depth: usize,
+) -> Result<Operand, QuerySyntaxError>
     requires within { at < length text.now }
     requires begins { begins_word (kind_of (slice_index text.now at)) ≡ true }
     requires depth { depth ≤ 64 }
