@@ -2,6 +2,7 @@
 
 ghost use Rattle.std.specs.Prelude.{◌≡◌, ℕ, Option, None, Ok, Err, IfOk, IfErr, IsOk};
 ghost use Rattle.doc_value.specs.Documents.{number_of};
+ghost use Rattle.doc_value.specs.declared.facts.TimeRange.{TimeRange};
 ghost use Rattle.index_config.specs.Answer.{config_answer};
 ghost use Rattle.index_world.specs.Config as spec;
 ghost use Rattle.index_world.specs.Config.{WantsMemory, same};
@@ -23,7 +24,6 @@ use meta_store::{Config, Reading, Settings};
 use query_ast::Query;
 use query_reader::{FieldNumbers, QueryError, read_query};
 use std::alloc::{AllocError, Global};
-use std::mem;
 
 // What a configuration says of its index, or what is wrong with it.
 fn settings_of(alloc: Global, config: &[u8]) -> Result<Result<Settings, ConfigError>, AllocError>
@@ -167,25 +167,18 @@ fn unless_short(read: Result<Query, QueryError>) -> Result<Result<Query, QueryEr
     }
 }
 
-// Of an act without a query nothing is read, nor before there is a configuration.
+// Before there is a configuration no task is read.
 fn query_said(
     alloc: Global,
     config: &Option<Config>,
-    act: &Act,
+    text: &[u8],
+    fields: &[Text],
 ) -> Result<Result<Query, QueryError>, AllocError>
-    ensures { IfOk result (λ said. sought_in said ≡ meta.query_said spec.reads config.now act.now) }
+    ensures { IfOk result (λ said. (opstamp : ℕ) (times : TimeRange) → sought_in said ≡ meta.query_said spec.reads config.now (acts.Task opstamp text.now fields.now times)) }
 {
-    let Some(config) = config else {
-        return Ok(Err(QueryError::Syntax { at: 0 }));
-    };
-    match act {
-        Act::Task { text, fields, .. } => unless_short(query_of_task(
-            alloc,
-            &config.settings.index,
-            text.as_slice(),
-            fields.as_slice(),
-        )),
-        _ => Ok(Err(QueryError::Syntax { at: 0 })),
+    match config {
+        Some(config) => unless_short(query_of_task(alloc, &config.settings.index, text, fields)),
+        None => Ok(Err(QueryError::Syntax { at: 0 })),
     }
 }
 
@@ -197,12 +190,20 @@ pub fn reading_of(
 ) -> Result<Reading, AllocError>
     ensures { IfOk result (λ reading. reading ≡ meta.reading_of spec.reads config.now entry.now.act) }
 {
-    let query = query_said(alloc, config, &entry.act)?;
-    match config_said(alloc, &entry.act) {
-        Ok(config) => Ok(Reading { config, query }),
-        Err(refused) => {
-            mem::drop(query);
-            Err(refused)
+    match &entry.act {
+        Act::Task { text, fields, .. } => {
+            let query = query_said(alloc, config, text.as_slice(), fields.as_slice())?;
+            Ok(Reading {
+                config: Err(ConfigError::NotToml),
+                query,
+            })
+        }
+        act => {
+            let config = config_said(alloc, act)?;
+            Ok(Reading {
+                config,
+                query: Err(QueryError::Syntax { at: 0 }),
+            })
         }
     }
 }
