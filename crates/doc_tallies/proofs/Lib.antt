@@ -14,6 +14,8 @@ pub mod Requests
 pub mod Metrics
 pub mod HitOrders
 pub mod Parting
+pub mod Divided
+pub mod Shared
 pub mod RankOrders
 pub mod Leasts
 pub mod Keys

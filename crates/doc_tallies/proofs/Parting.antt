@@ -36,7 +36,7 @@ length_sorted b (x ∷ xs) = length_put b x (sorted_by b xs) ∙ ap (λ n. suc n
 
 -- ---- put into one of two lists
 
-put_left : {X : Type 0} (b : X → X → Bool) (x : X) (us ws : List X) → AllByRecursion (λ z. b z x ≡ false) ws → put_by b x (us ++ ws) ≡ put_by b x us ++ ws
+pub put_left : {X : Type 0} (b : X → X → Bool) (x : X) (us ws : List X) → AllByRecursion (λ z. b z x ≡ false) ws → put_by b x (us ++ ws) ≡ put_by b x us ++ ws
 put_left b x [] [] behind = refl
 put_left b x [] (z ∷ zs) behind = rw (behind.0) refl
 put_left b x (a ∷ rest) ws behind = go (b a x) (put_left b x rest ws behind)
@@ -45,7 +45,7 @@ put_left b x (a ∷ rest) ws behind = go (b a x) (put_left b x rest ws behind)
     go true e = ap (λ zs. a ∷ zs) e
     go false e = refl
 
-put_right : {X : Type 0} (b : X → X → Bool) (x : X) (us ws : List X) → AllByRecursion (λ z. b z x ≡ true) us → put_by b x (us ++ ws) ≡ us ++ put_by b x ws
+pub put_right : {X : Type 0} (b : X → X → Bool) (x : X) (us ws : List X) → AllByRecursion (λ z. b z x ≡ true) us → put_by b x (us ++ ws) ≡ us ++ put_by b x ws
 put_right b x [] ws before = refl
 put_right b x (a ∷ rest) ws before = rw (before.0) (ap (λ zs. a ∷ zs) (put_right b x rest ws before.1))
 

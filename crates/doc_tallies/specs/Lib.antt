@@ -3,6 +3,7 @@ pub mod Causes
 pub mod Cells
 pub mod Times
 pub mod Firsts
+pub mod Shares
 pub mod Orders
 pub mod Near
 pub mod Bars

@@ -25,7 +25,7 @@ mod times;
 
 pub use hit_order::HitOrder;
 pub use hits::first_hits;
-pub use laws::merged_firsts;
+pub use laws::{merged_firsts, shares_suffice};
 pub use near::near_of;
 pub use order::comes_before;
 pub use partials::partial_of;
