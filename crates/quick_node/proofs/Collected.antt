@@ -6,7 +6,7 @@ use Rattle.std.proofs.lemmas.List.{append-nil, length-append}
 use Rattle.std.proofs.lemmas.Slice.Eq.{bytes_eq-Decides}
 use Rattle.std.proofs.Math.Seq.{take-length}
 use Rattle.std.specs.List.{AllByRecursion}
-use Rattle.std.specs.Prelude.{◌&&◌, Option, Some, None, Result, Ok, Err, ⊤, bytes_eq, filter, find, if◌then◌else◌, is_some, nat_lt, not, slice_get}
+use Rattle.std.specs.Prelude.{Option, Some, None, Result, Ok, Err, ⊤, bytes_eq, filter, find, if◌then◌else◌, is_some, nat_lt, not, slice_get}
 use Rattle.index_config.specs.declared.config.IndexConfig.{IndexConfig}
 use Rattle.index_config.proofs.Ranges.{accepted-ranges}
 use Rattle.meta_journal.specs.Places.{split_key}

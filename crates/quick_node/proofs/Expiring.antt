@@ -23,7 +23,7 @@ use Rattle.search_api.specs.declared.reply.Said.{Said}
 use Rattle.search_api.specs.declared.reply.Said.TheVariants.{Found, Deleted, Refused}
 use Rattle.search_api.specs.declared.unanswered.Unanswered.{Unanswered}
 use Rattle.search_api.specs.declared.unanswered.Unanswered.TheVariants as reasons
-use Rattle.index_world.specs.Calls.{Fate, Call, Fault, store_fault, is_foreign, is_full, is_expired, Grace, Trouble, faulted, no_memory, Unmade, troubled, Unread, not_read, Gives, asked_and_looked, asked_clock, asking, begun, fetched, file_got, got_file, loaded, may_fail, or_short, unless_over}
+use Rattle.index_world.specs.Calls.{Fate, store_fault, is_foreign, is_full, is_expired, Grace, Trouble, faulted, no_memory, Unmade, troubled, Unread, not_read, Gives, asked_and_looked, fetched, loaded}
 use Rattle.index_world.specs.Calls as calls
 use Rattle.index_world.specs.Config.{reads}
 use Rattle.index_world.specs.Configuration.{configuration, config_or}
@@ -42,11 +42,10 @@ use Rattle.upkeep_run.specs.Outcomes.{UpkeepOutcome}
 use Rattle.upkeep_run.specs.Places as workers
 use Rattle.upkeep_run.specs.declared.work.Aim.{Aim}
 use Rattle.upkeep_run.specs.declared.work.Aim.TheVariants.{Deleting, Merging}
-use Rattle.node_run.specs.Node.{Node, Line, At, Assign, StepIndexer, RestartIndexer, RestartClient, StepMerger, RestartMerger, StepDeleter, RestartDeleter, StepCollector, RestartCollector, RestartNode, Open, StepClient, Outcome, client_said}
+use Rattle.node_run.specs.Node.{Node, Line, At, Assign, StepIndexer, RestartIndexer, RestartClient, StepMerger, RestartMerger, StepDeleter, RestartDeleter, StepCollector, RestartCollector, RestartNode, Open, StepClient, Outcome}
 use Rattle.node_run.specs.Telling.{IsOfText}
 use Rattle.node_run.specs.Turns as node_turns
-use Rattle.node_run.specs.Turns.{Turned, Turn, Turns, assign_at, client_named, client_turn_by, collector_turn_by, full_turn, indexer_at, indexer_turn_by, open_by, or_quiet, quiet, restart_by, said_by_client, said_by_collector, said_by_indexer, said_by_worker, searching_luck, turn_by, with_client, with_dropped, with_deleter, with_merger, worker_turn_by, working_luck}
-use Rattle.node_run.proofs.CallMoves.{Grows, asked_and_looked_moves}
+use Rattle.node_run.specs.Turns.{Turned, Turn, Turns, assign_at, client_named, client_turn_by, collector_turn_by, full_turn, indexer_at, indexer_turn_by, open_by, or_quiet, restart_by, said_by_client, said_by_collector, said_by_indexer, said_by_worker, searching_luck, turn_by, with_client, with_deleter, with_merger, worker_turn_by, working_luck}
 use Rattle.node_run.proofs.CallTells.{IfErr, IsStoreTrouble, asked_and_looked_own}
 use Rattle.node_run.proofs.Moving.{plan_same, turn_later, turns_later}
 use Rattle.node_run.proofs.Refusals.{OfText, asked_of_text}

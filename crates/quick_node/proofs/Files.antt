@@ -19,7 +19,7 @@ use Rattle.split_states.specs.declared.rows.Row.{Row}
 use Rattle.split_states.specs.declared.rows.RowState.TheVariants.{Published}
 use Rattle.source_checkpoint.specs.declared.ledger.Checkpoint.{Checkpoint}
 use Rattle.source_log.specs.Log.{Log}
-use Rattle.index_world.specs.Calls.{Effect, done_at_once, done_late, done_never, is_at_once, Fate, Call, Trouble, faulted, no_memory, Unmade, Unread, not_read, Gives, Made, made, exists, failed, risen, may_fail, entry_lands, file_lands, land_at, all_landed, begun, tried, made_behind, made_at, create_at_end, taken_in, or_short, unless_short, asked_clock, asked_moment, asking, and_then_by, taken_unless, got_at, get_at_end, settle_made, settle_with, settled, fence_of, entry_of, may_append, last_made, last_unless, last_create, troubled_by, as_unmade, adopted_made, first_unless, transact, appended, looked, asked_and_looked, asked, file_by, file_made, got_file, file_got, Grace, unless_over, fetched, with_standing, reborn, read_journal, unless_empty, load_by, loaded}
+use Rattle.index_world.specs.Calls.{Effect, done_at_once, done_late, done_never, is_at_once, Fate, Call, Trouble, no_memory, Unmade, Unread, not_read, Gives, Made, made, exists, failed, risen, may_fail, entry_lands, file_lands, land_at, all_landed, begun, tried, made_behind, made_at, create_at_end, taken_in, or_short, unless_short, asked_clock, asked_moment, asking, and_then_by, taken_unless, got_at, get_at_end, settle_made, settle_with, settled, fence_of, entry_of, may_append, last_made, last_unless, last_create, troubled_by, as_unmade, adopted_made, first_unless, transact, appended, looked, asked_and_looked, asked, file_by, file_made, got_file, file_got, Grace, unless_over, fetched, with_standing, reborn, read_journal, unless_empty, load_by, loaded}
 use Rattle.index_world.specs.Calls as calls
 use Rattle.index_world.specs.Created.{first_made, created_by, created_behind, created}
 use Rattle.index_world.specs.Core.{Core, clock_of, File, Late, late_entry, late_dead, late_file, file_at, with_unread, journal_of}

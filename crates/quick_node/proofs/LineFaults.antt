@@ -10,7 +10,7 @@ use Rattle.source_checkpoint.specs.declared.delta.StaleDelta.{StaleDelta}
 use Rattle.source_checkpoint.specs.declared.delta.StaleDelta.TheVariants as deltas
 use Rattle.source_checkpoint.specs.declared.ledger.Checkpoint.{Checkpoint}
 use Rattle.source_log.specs.Log.{Log}
-use Rattle.index_world.specs.Calls.{Fate, Call, Fault, store_fault, is_foreign, is_full, is_expired, Grace, unless_over, Trouble, faulted, no_memory, Unmade, refused, troubled, Unread, not_read, Gives, gives, Made, made, exists, failed, Making, risen, may_fail, begun, tried, made_behind, made_at, create_at_end, taken_in, or_short, unless_short, asked_clock, asking, and_then, and_then_by, taken_unless, got_at, get_at_end, settle_made, settle_with, settled, fence_of, entry_of, may_append, last_made, last_unless, last_create, troubled_by, as_unmade, adopted_made, first_unless, transact, appended, looked, settled_and_copied, asked_and_looked, asked, file_by, file_made, got_file, file_got, fetched, with_standing, read_journal, unless_empty, load_by, loaded}
+use Rattle.index_world.specs.Calls.{Fate, store_fault, is_foreign, is_full, is_expired, Trouble, faulted, no_memory, Unmade, refused, troubled, Unread, not_read, Gives, gives, or_short, appended, looked, asked_and_looked, asked, file_made, loaded}
 use Rattle.index_world.specs.Calls as calls
 use Rattle.index_world.specs.Core.{Core, last_count}
 use Rattle.index_world.specs.Gate.{stage_act, task_act, task_call}
@@ -18,7 +18,7 @@ use Rattle.index_world.specs.Seen.{visible_at}
 use Rattle.index_world.specs.SplitFile.{file_of}
 use Rattle.indexing_run.specs.Outcomes.{IndexerOutcome}
 use Rattle.indexing_run.specs.Places.{Batch, Held, Place, idle, reading, staged, uploaded, Indexer}
-use Rattle.indexing_run.specs.Steps.{Stepped, log_may_fail, log_called, checkpoints_by, take_checkpoints, idle_by, read_by, read_given, step_read, stage_by, step_stage, batch_facts, upload_by, step_upload, publish_by, publish_refused, step_publish, step_batch, step_place, step_indexer}
+use Rattle.indexing_run.specs.Steps.{Stepped, log_may_fail, log_called, checkpoints_by, take_checkpoints, idle_by, read_by, read_given, step_read, stage_by, step_stage, batch_facts, upload_by, publish_by, publish_refused, step_batch, step_place, step_indexer}
 use Rattle.indexing_run.specs.Steps as indexing
 use Rattle.agg_nested.specs.Answers.{all_buckets, nested_answer, told}
 use Rattle.agg_nested.specs.declared.answer.NestedAnswer.{NestedAnswer}
@@ -34,7 +34,7 @@ use Rattle.search_api.specs.declared.unanswered.Unanswered.{Unanswered}
 use Rattle.search_api.specs.declared.unanswered.Unanswered.TheVariants as reasons
 use Rattle.root_search.specs.Answer.{answer, matching, printed, shown}
 use Rattle.root_search.specs.Requests.{ask_of, asked_of}
-use Rattle.root_search.specs.Steps.{Request, no_request, opened, planned, Plan, Client, config_at, config_in, delete_by, opened_by, plan_by, plan_given, state_refusal, fetch_by, fetched_each, unless_fault, next_step, step_request, step_client}
+use Rattle.root_search.specs.Steps.{Request, no_request, opened, planned, Plan, Client, config_at, config_in, delete_by, opened_by, plan_by, plan_given, state_refusal, fetch_by, fetched_each, next_step, step_request, step_client}
 use Rattle.root_search.specs.Steps as searching
 use Rattle.root_search.specs.declared.outcome.SearchStep.{SearchStep}
 use Rattle.split_collector.specs.Outcomes.{Outcome as CollectorOutcome}
