@@ -1,5 +1,5 @@
 -- The documents of a range by the entries of a column.
-use Rattle.std.proofs.Common.{◌≡◌, ℕ, ℤ, pos, negsuc, zero, suc, ◌+◌, ◌<◌, ◌≤◌, Bool, true, false, ◌&&◌, ◌||◌, List, [], ◌∷◌, ◌++◌, length, drop, get_or, nat_eq, nat_lt, slice_get, if◌then◌else◌, Some, Option, Result, Ok, Err, MatchResult, IfOk, refl, ap, sym, subst, ◌∙◌, arith}
+use Rattle.std.proofs.Common.{◌≡◌, ℕ, zero, suc, ◌+◌, ◌<◌, ◌≤◌, Bool, true, false, ◌&&◌, ◌||◌, List, [], ◌∷◌, ◌++◌, length, drop, get_or, nat_eq, nat_lt, slice_get, if◌then◌else◌, Some, Option, Result, Ok, Err, MatchResult, IfOk, refl, ap, sym, subst, ◌∙◌, arith}
 use Rattle.std.specs.List.{AllByRecursion, starts_with}
 use Rattle.std.proofs.lemmas.Bool.{eq-eqb, ne_eqb}
 use Rattle.std.proofs.lemmas.List.{drop_more}
@@ -12,9 +12,7 @@ use Rattle.doc_value.specs.declared.doc.DocField.{DocField}
 use Rattle.doc_value.specs.declared.doc.Value.{Value}
 use Rattle.doc_value.specs.declared.doc.Value.TheVariants as values
 use Rattle.doc_value.specs.Documents.{IsOfKind, AreOfKind, IsOfSchema, values_in}
-use Rattle.doc_value.specs.Terms.{turned}
 use Rattle.fast_fields.specs.Columns.{Cell, AreEntries, IsNumber, cells, cells_of}
-use Rattle.fast_fields.specs.Columns as columns
 use Rattle.fast_fields.specs.Readers.{IsOf}
 use Rattle.fast_fields.specs.declared.column.Column.{Column}
 use Rattle.fast_fields.specs.declared.entries.Entry.{Entry}
@@ -93,14 +91,10 @@ all_put r k place es new all le h = sym (ap (λ (l : List Entry). new || some_is
 
 -- ---- a value and its entry
 
-turned_same : (z : ℤ) → columns.turned z ≡ turned z
-turned_same (pos n) = refl
-turned_same (negsuc n) = refl
-
 number_is : (k : Kind) (texts : List (List ℕ)) (v : Value) (n : ℕ) → has_order k ≡ true → IsOfKind k v → IsNumber texts v n → n ≡ number_of v
-number_is kinds.I64 texts (values.I64 z) n ordered of_kind is = is ∙ turned_same z
+number_is kinds.I64 texts (values.I64 z) n ordered of_kind is = is
 number_is kinds.U64 texts (values.U64 m) n ordered of_kind is = is
-number_is kinds.Datetime texts (values.Datetime z) n ordered of_kind is = is ∙ turned_same z
+number_is kinds.Datetime texts (values.Datetime z) n ordered of_kind is = is
 number_is kinds.I64 texts v n ordered of_kind is = absurd of_kind
 number_is kinds.U64 texts v n ordered of_kind is = absurd of_kind
 number_is kinds.Datetime texts v n ordered of_kind is = absurd of_kind
