@@ -6,13 +6,13 @@ use Rattle.index_world.specs.Core.{Core, IsConfigured, IsUploadedIn, HasStagedIn
 use Rattle.index_world.specs.Gate.{IsStagedIn, IsPublishable}
 use Rattle.index_world.specs.Index.{IsMade}
 use Rattle.index_world.specs.SplitFile.{file_of, facts_of, AreSplit}
-use Rattle.indexing_run.specs.Places.{Batch, Held, held_facts, IsStagedHeld, IsUploadedHeld}
-use Rattle.indexing_run.specs.Places.{Place, Indexer, number_held}
+use Rattle.indexing_run.specs.Places.{Batch, IndexerHeld, held_facts, IsStagedHeld, IsUploadedHeld}
+use Rattle.indexing_run.specs.Places.{IndexerPlace, Indexer, number_held}
 use Rattle.indexing_run.specs.Standing.{PlaceStands, HoldsOwn, IndexerStands}
 use Rattle.indexing_run.specs.Steps.{batch_facts, held_of}
 use Rattle.indexing_run.specs.declared.indexer.Indexer.{Indexer as Reader}
-use Rattle.indexing_run.specs.declared.indexer.Place.{Place as HeldPlace}
-use Rattle.indexing_run.specs.declared.indexer.Place.TheVariants as places
+use Rattle.indexing_run.specs.declared.indexer.IndexerPlace.{IndexerPlace as HeldPlace}
+use Rattle.indexing_run.specs.declared.indexer.IndexerPlace.TheVariants as places
 use Rattle.index_world.specs.World.{GoesOn}
 use Rattle.indexing_run.specs.Making.{IsBatch}
 use Rattle.indexing_run.proofs.Batches.{batch_is_made}
@@ -32,24 +32,24 @@ staged_is_held log core batch number b are k s =
     }
 
 -- an upload that was Ok makes it uploaded
-pub uploaded_is_held : (log : Log) (core after : Core) (held : Held) (Kept : ℕ → Type 0) → KeepsFor Kept core after → IsStagedHeld log core held → IsUploadedIn after held.number (file_of held.config held.documents) → IsUploadedHeld log after held
+pub uploaded_is_held : (log : Log) (core after : Core) (held : IndexerHeld) (Kept : ℕ → Type 0) → KeepsFor Kept core after → IsStagedHeld log core held → IsUploadedIn after held.number (file_of held.config held.documents) → IsUploadedHeld log after held
 uploaded_is_held log core after held Kept k s u = record { configured = k.configured held.config s.configured; uploaded = u; staged = k.staged held.number held.delta (held_facts held) s.staged; made = s.made }
 
 -- what is uploaded may be published
-pub held_is_publishable : (log : Log) (core : Core) (held : Held) → IsUploadedHeld log core held → IsPublishable log core held.number
+pub held_is_publishable : (log : Log) (core : Core) (held : IndexerHeld) → IsUploadedHeld log core held → IsPublishable log core held.number
 held_is_publishable log core held u =
     record { config = held.config; configured = u.configured; delta = held.delta; facts = held_facts held; bytes = file_of held.config held.documents; staged = u.staged; made = u.made; uploaded = u.uploaded }
 
 -- the calls of others leave it as it was
-pub staged_stays : (log : Log) (core after : Core) (held : Held) (Kept : ℕ → Type 0) → KeepsFor Kept core after → Kept held.number → IsStagedHeld log core held → IsStagedHeld log after held
+pub staged_stays : (log : Log) (core after : Core) (held : IndexerHeld) (Kept : ℕ → Type 0) → KeepsFor Kept core after → Kept held.number → IsStagedHeld log core held → IsStagedHeld log after held
 staged_stays log core after held Kept k other s =
     record { configured = k.configured held.config s.configured; unused = k.unused held.number other s.unused; staged = k.staged held.number held.delta (held_facts held) s.staged; made = s.made }
 
-pub uploaded_stays : (log : Log) (core after : Core) (held : Held) (Kept : ℕ → Type 0) → KeepsFor Kept core after → IsUploadedHeld log core held → IsUploadedHeld log after held
+pub uploaded_stays : (log : Log) (core after : Core) (held : IndexerHeld) (Kept : ℕ → Type 0) → KeepsFor Kept core after → IsUploadedHeld log core held → IsUploadedHeld log after held
 uploaded_stays log core after held Kept k u =
     record { configured = k.configured held.config u.configured; uploaded = k.uploaded held.number (file_of held.config held.documents) u.uploaded; staged = k.staged held.number held.delta (held_facts held) u.staged; made = u.made }
 
-place_stays : (log : Log) (core after : Core) (kept : HeldPlace) (place : Place) (Kept : ℕ → Type 0) → KeepsFor Kept core after → ((n : ℕ) → number_held place ≡ Some n → Kept n) →
+place_stays : (log : Log) (core after : Core) (kept : HeldPlace) (place : IndexerPlace) (Kept : ℕ → Type 0) → KeepsFor Kept core after → ((n : ℕ) → number_held place ≡ Some n → Kept n) →
     PlaceStands log core kept place → PlaceStands log after kept place
 place_stays log core after places.Idle place Kept k other s = s
 place_stays log core after (places.Reading batch) place Kept k other s = (s.0, s.1, s.2, s.3, k.configured s.0.config s.4)

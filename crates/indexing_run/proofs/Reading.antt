@@ -24,15 +24,15 @@ use Rattle.index_world.specs.Gate.{Does, Says, IsTrouble, IsMoment, AreMarks}
 use Rattle.indexing_run.specs.declared.batch.Batch.{Batch as HeldBatch}
 use Rattle.indexing_run.specs.declared.batch.NextRead.{NextRead}
 use Rattle.indexing_run.specs.declared.indexer.Indexer.{Indexer as Reader}
-use Rattle.indexing_run.specs.declared.indexer.Place.{Place as HeldPlace}
-use Rattle.indexing_run.specs.declared.indexer.Place.TheVariants as places
+use Rattle.indexing_run.specs.declared.indexer.IndexerPlace.{IndexerPlace as HeldPlace}
+use Rattle.indexing_run.specs.declared.indexer.IndexerPlace.TheVariants as places
 use Rattle.indexing_run.specs.declared.outcome.IndexerOutcome.{IndexerOutcome as Said}
 use Rattle.indexing_run.specs.declared.outcome.IndexerOutcome.TheVariants as said
 use Rattle.indexing_run.specs.Asking.{ask_of, IsCallFree}
 use Rattle.indexing_run.specs.Making.{IsBatch, IsQueue}
 use Rattle.indexing_run.specs.Outcomes as outcomes
 use Rattle.indexing_run.specs.Outcomes.{IndexerOutcome}
-use Rattle.indexing_run.specs.Places.{Batch, Place, idle, reading, Indexer, number_held}
+use Rattle.indexing_run.specs.Places.{Batch, IndexerPlace, idle, reading, Indexer, number_held}
 use Rattle.indexing_run.specs.Standing.{Answers, BatchStands, ReadsOn, PlaceStands, IndexerStands, NamesGiven, StepsAs, batch_read, next_read}
 use Rattle.indexing_run.specs.Steps.{is_empty, IndexerLuck, stepped, taken_from, start_of, batch_after, read_limit, fresh_batch, marks_at, partitions_for, log_may_fail, trouble_outcome, batch_facts, checkpoints_given, idle_by, idle_unless, read_by, read_asked, step_read, step_stage, step_place, or_short, step_indexer}
 use Rattle.indexing_run.proofs.Batches.{fresh_is_batch, read_taken, read_keeps, slice_of}
@@ -170,13 +170,13 @@ module _ {L W : Type 0} (tells : L → Option Log) (count : L → ℕ) (Stands :
     (reader : Reader L) (old new : W) (s : IndexerStands tells count reader (record indexer { place = idle }) core log)
     (now : ℕ) (next : Reader L) (told : tells next.log ≡ Some log) (counted : count next.log ≡ now) (kept : next.assignment ≡ reader.assignment) (later : indexer.log_faults ≤ now) (within : now ≤ last_count) where
   -- the indexer behind the call of its log
-  called_stands : (held : HeldPlace) (place : Place) (after : Core) → PlaceStands log after held place →
+  called_stands : (held : HeldPlace) (place : IndexerPlace) (after : Core) → PlaceStands log after held place →
       IndexerStands tells count (record next { place = held }) (record indexer { place = place; log_faults = risen indexer.log_faults (now - indexer.log_faults) }) after log
   called_stands held place after h =
       record { told = told; log_faults = counted ∙ sym (risen_is indexer.log_faults now later within); assignment = kept ∙ s.assignment; assigned = s.assigned; place = h }
 
   -- it stands for this, and holds no number
-  ends_called : (before place : Place) (held : HeldPlace) (result : Result Said AllocError) (mid after : Core) (luck : IndexerLuck) (outcome : Option IndexerOutcome) →
+  ends_called : (before place : IndexerPlace) (held : HeldPlace) (result : Result Said AllocError) (mid after : Core) (luck : IndexerLuck) (outcome : Option IndexerOutcome) →
       Called Stands Between Owns Adds (number_held before) (ask_of before) (IsCallFree before outcome) core log old new mid after →
       step_indexer luck log (record indexer { place = before }) mid ≡ record { outcome = outcome; indexer = record indexer { place = place; log_faults = risen indexer.log_faults (now - indexer.log_faults) }; core = after } →
       Answers result outcome → number_held place ≡ None → PlaceStands log after held place →
@@ -362,12 +362,12 @@ module _ {L W : Type 0} (tells : L → Option Log) (count : L → ℕ) (Stands :
             ∙ ap (λ n. checkpoints_given log (record indexer { place = idle; log_faults = n }) (looked fate mid)) (sym h.1)
 
     -- it stands for this behind the names
-    named_stands : (held : HeldPlace) (place : Place) (after : Core) → PlaceStands log after held place →
+    named_stands : (held : HeldPlace) (place : IndexerPlace) (after : Core) → PlaceStands log after held place →
         IndexerStands tells count (record next { place = held }) (record indexer { place = place; log_faults = now }) after log
     named_stands held place after h =
         record { told = told; log_faults = counted; assignment = kept ∙ s.assignment; assigned = s.assigned; place = h }
 
-    ends_named : (place : Place) (held : HeldPlace) (result : Result Said AllocError) (mid after : Core) (luck : IndexerLuck) (outcome : Option IndexerOutcome) →
+    ends_named : (place : IndexerPlace) (held : HeldPlace) (result : Result Said AllocError) (mid after : Core) (luck : IndexerLuck) (outcome : Option IndexerOutcome) →
         Called Stands Between Owns Adds None of_checkpoints (IsCallFree idle outcome) core log old new mid after →
         step_indexer luck log (record indexer { place = idle }) mid ≡ record { outcome = outcome; indexer = record indexer { place = place; log_faults = now }; core = after } →
         Answers result outcome → number_held place ≡ None → PlaceStands log after held place →

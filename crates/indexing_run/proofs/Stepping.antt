@@ -30,14 +30,14 @@ use Rattle.index_world.specs.declared.world_error.WorldError.{WorldError}
 use Rattle.index_world.specs.declared.world_error.WorldError.TheVariants as errors
 use Rattle.indexing_run.specs.Asking.{ask_of, IsCallFree}
 use Rattle.indexing_run.specs.declared.indexer.Indexer.{Indexer as Reader}
-use Rattle.indexing_run.specs.declared.indexer.Place.{Place as HeldPlace}
-use Rattle.indexing_run.specs.declared.indexer.Place.TheVariants as places
+use Rattle.indexing_run.specs.declared.indexer.IndexerPlace.{IndexerPlace as HeldPlace}
+use Rattle.indexing_run.specs.declared.indexer.IndexerPlace.TheVariants as places
 use Rattle.indexing_run.specs.declared.outcome.IndexerOutcome.{IndexerOutcome as Said}
 use Rattle.indexing_run.specs.declared.outcome.IndexerOutcome.TheVariants as said
 use Rattle.indexing_run.specs.Making.{IsBatch}
 use Rattle.indexing_run.specs.Outcomes as outcomes
 use Rattle.indexing_run.specs.Outcomes.{IndexerOutcome}
-use Rattle.indexing_run.specs.Places.{Batch, Held, Place, idle, reading, staged, uploaded, Indexer, IsStagedHeld, number_held}
+use Rattle.indexing_run.specs.Places.{Batch, IndexerHeld, IndexerPlace, idle, reading, staged, uploaded, Indexer, IsStagedHeld, number_held}
 use Rattle.indexing_run.specs.Standing.{Answers, PlaceStands, IndexerStands, StepsAs}
 use Rattle.indexing_run.specs.Steps.{LogCall, IndexerLuck, stepped, trouble_outcome, publish_given, publish_outcome, publish_by, upload_given, upload_by, stage_given, stage_by, stage_outcome, step_stage, step_read, step_indexer, held_of, batch_facts}
 use Rattle.indexing_run.proofs.Holding.{staged_is_held, uploaded_is_held}
@@ -116,7 +116,7 @@ none_called Stands Between Owns Adds one ask free core log old new stands passed
     }
 
 -- a call that found no memory leaves its step without an outcome
-pub trouble_free : (place : Place) (error : WorldError) (trouble : Trouble) → IsTrouble error trouble → IsWant error → IsCallFree place (trouble_outcome trouble)
+pub trouble_free : (place : IndexerPlace) (error : WorldError) (trouble : Trouble) → IsTrouble error trouble → IsWant error → IsCallFree place (trouble_outcome trouble)
 trouble_free place (errors.Memory e) trouble w short = subst (λ t. IsCallFree place (trouble_outcome t)) (sym w) tt
 trouble_free place (errors.Refused refusal) trouble w short = absurd short
 trouble_free place (errors.StoreFault before after) trouble w short = absurd short
@@ -129,15 +129,15 @@ trouble_free place errors.NoIndex trouble w short = absurd short
 trouble_free place errors.IndexExists trouble w short = absurd short
 trouble_free place (errors.BadConfig bad) trouble w short = absurd short
 
-stage_free : (place : Place) (error : WorldError) (unmade : Unmade) → IsUnmade error unmade → IsWant error → IsCallFree place (stage_outcome unmade)
+stage_free : (place : IndexerPlace) (error : WorldError) (unmade : Unmade) → IsUnmade error unmade → IsWant error → IsCallFree place (stage_outcome unmade)
 stage_free place error (refused refusal) w short = absurd (subst IsWant w short)
 stage_free place error (troubled trouble) w short = trouble_free place error trouble w short
 
-publish_free : (place : Place) (number : ℕ) (error : WorldError) (unmade : Unmade) → IsUnmade error unmade → IsWant error → IsCallFree place (publish_outcome number unmade)
+publish_free : (place : IndexerPlace) (number : ℕ) (error : WorldError) (unmade : Unmade) → IsUnmade error unmade → IsWant error → IsCallFree place (publish_outcome number unmade)
 publish_free place number error (refused refusal) w short = absurd (subst IsWant w short)
 publish_free place number error (troubled trouble) w short = trouble_free place error trouble w short
 
-published_free : (place : Place) (held : Held) (indexer : Indexer) (result : Result ℕ WorldError) (a : Result ⊤ Unmade) (after : Core) → Says IsUnmade IsRevision result a after → IsShort result → IsCallFree place (publish_by a held indexer after).outcome
+published_free : (place : IndexerPlace) (held : IndexerHeld) (indexer : Indexer) (result : Result ℕ WorldError) (a : Result ⊤ Unmade) (after : Core) → Says IsUnmade IsRevision result a after → IsShort result → IsCallFree place (publish_by a held indexer after).outcome
 published_free place held indexer (Ok revision) a after w short = absurd short
 published_free place held indexer (Err error) (Ok done) after w short = absurd w
 published_free place held indexer (Err error) (Err unmade) after w short = publish_free place held.number error unmade w short
@@ -146,10 +146,10 @@ published_free place held indexer (Err error) (Err unmade) after w short = publi
 idle_reads_none : (batch : Batch) → idle ≡ reading batch → ⊥
 idle_reads_none batch e = cc e
 
-idle_stages_none : (held : Held) → idle ≡ staged held → ⊥
+idle_stages_none : (held : IndexerHeld) → idle ≡ staged held → ⊥
 idle_stages_none held e = cc e
 
-idle_uploads_none : (held : Held) → idle ≡ uploaded held → ⊥
+idle_uploads_none : (held : IndexerHeld) → idle ≡ uploaded held → ⊥
 idle_uploads_none held e = cc e
 
 pub idle_stays : (log : Log) (core after : Core) (kept : HeldPlace) → PlaceStands log core kept idle → PlaceStands log after kept idle
@@ -166,7 +166,7 @@ module _ {L W : Type 0} (tells : L → Option Log) (count : L → ℕ) (Stands :
       record { told = s.told; log_faults = s.log_faults; assignment = s.assignment; assigned = s.assigned; place = idle_stays log core after reader.place s.place }
 
   -- a step behind which it is idle
-  pub ends_idle : (place : Place) (result : Result Said AllocError) (mid after : Core) (luck : IndexerLuck) (outcome : Option IndexerOutcome) →
+  pub ends_idle : (place : IndexerPlace) (result : Result Said AllocError) (mid after : Core) (luck : IndexerLuck) (outcome : Option IndexerOutcome) →
       Called Stands Between Owns Adds (number_held place) (ask_of place) (IsCallFree place outcome) core log old new mid after →
       step_indexer luck log (record indexer { place = place }) mid ≡ record { outcome = outcome; indexer = record indexer { place = idle }; core = after } → Answers result outcome →
       StepsAs tells count Stands Between Owns Adds result (record indexer { place = place }) core log reader old new
@@ -191,13 +191,13 @@ module _ {L W : Type 0} (tells : L → Option Log) (count : L → ℕ) (Stands :
       }
 
   -- it holds this from now on
-  holds_on : (after : Core) (kept : HeldPlace) (place : Place) → PlaceStands log after kept place → IndexerStands tells count (record reader { place = kept }) (record indexer { place = place }) after log
+  holds_on : (after : Core) (kept : HeldPlace) (place : IndexerPlace) → PlaceStands log after kept place → IndexerStands tells count (record reader { place = kept }) (record indexer { place = place }) after log
   holds_on after kept place h =
       record { told = s.told; log_faults = s.log_faults; assignment = s.assignment; assigned = s.assigned; place = h }
 
   -- ---- a Publish
 
-  pub publishes : (held : Held) (number : ℕ) (result : Result ℕ WorldError) (answered : Result Said AllocError) → number ≡ held.number →
+  pub publishes : (held : IndexerHeld) (number : ℕ) (result : Result ℕ WorldError) (answered : Result Said AllocError) → number ≡ held.number →
       Does Stands Between Owns Adds None (of_publish number) (publish_call number) IsUnmade IsRevision result core log old new →
       ((a : Result ⊤ Unmade) (after : Core) → Says IsUnmade IsRevision result a after → Answers answered (publish_by a held indexer after).outcome) →
       StepsAs tells count Stands Between Owns Adds answered (record indexer { place = uploaded held }) core log reader old new
@@ -224,7 +224,7 @@ module _ {L W : Type 0} (tells : L → Option Log) (count : L → ℕ) (Stands :
 
   -- ---- an upload
 
-  module _ (held : Held) (number : ℕ) (bytes : List ℕ) (same : number ≡ held.number) (file : bytes ≡ file_of held.config held.documents) where
+  module _ (held : IndexerHeld) (number : ℕ) (bytes : List ℕ) (same : number ≡ held.number) (file : bytes ≡ file_of held.config held.documents) where
     upload_did : (fate : Fate) (mid after : Core) (a : Result ⊤ Trouble) → upload_made fate number bytes mid ≡ gives a after →
         step_indexer (by_world fate) log (record indexer { place = staged held }) mid ≡ upload_by a held (record indexer { place = staged held }) after
     upload_did fate mid after a did =
@@ -387,12 +387,12 @@ module _ {L W : Type 0} (tells : L → Option Log) (count : L → ℕ) (Stands :
 
 -- ---- what a Publish answers
 
-pub published_answers : (held : Held) (number : ℕ) (indexer : Indexer) (revision : ℕ) → number ≡ held.number → (a : Result ⊤ Unmade) (after : Core) → Says IsUnmade IsRevision (Ok revision) a after →
+pub published_answers : (held : IndexerHeld) (number : ℕ) (indexer : Indexer) (revision : ℕ) → number ≡ held.number → (a : Result ⊤ Unmade) (after : Core) → Says IsUnmade IsRevision (Ok revision) a after →
     Answers (Ok (said.Published number)) (publish_by a held indexer after).outcome
 published_answers held number indexer revision same (Ok done) after w = ap outcomes.Published (sym same)
 published_answers held number indexer revision same (Err e) after w = absurd w
 
-pub unpublished_answers : (held : Held) (number : ℕ) (indexer : Indexer) (error : WorldError) (answered : Result Said AllocError) → number ≡ held.number →
+pub unpublished_answers : (held : IndexerHeld) (number : ℕ) (indexer : Indexer) (error : WorldError) (answered : Result Said AllocError) → number ≡ held.number →
     ((unmade : Unmade) → IsUnmade error unmade → Answers answered (publish_outcome number unmade)) → (a : Result ⊤ Unmade) (after : Core) → Says IsUnmade IsRevision (Err error) a after →
     Answers answered (publish_by a held indexer after).outcome
 unpublished_answers held number indexer error answered same f (Ok done) after w = absurd w
@@ -438,7 +438,7 @@ set_idle tells count reader indexer core log kept e s =
     record { told = s.told; log_faults = s.log_faults; assignment = s.assignment; assigned = s.assigned; place = subst (λ k. PlaceStands log core k idle) (sym e) refl }
 
 pub as_placed : {L W : Type 0} (tells : L → Option Log) (count : L → ℕ) (Stands : W → Core → Log → Type 0) (Between : Core → Core → Type 0) (Owns : W → ℕ → Type 0) (Adds : W → List CallMade → W → Type 0) (result : Result Said AllocError) (indexer : Indexer) (core : Core)
-    (log : Log) (reader : Reader L) (old new : W) (place : Place) → indexer.place ≡ place → StepsAs tells count Stands Between Owns Adds result (record indexer { place = place }) core log reader old new →
+    (log : Log) (reader : Reader L) (old new : W) (place : IndexerPlace) → indexer.place ≡ place → StepsAs tells count Stands Between Owns Adds result (record indexer { place = place }) core log reader old new →
     StepsAs tells count Stands Between Owns Adds result indexer core log reader old new
 as_placed tells count Stands Between Owns Adds result indexer core log reader old new place e h =
     subst (λ p. StepsAs tells count Stands Between Owns Adds result (record indexer { place = p }) core log reader old new) (sym e) h

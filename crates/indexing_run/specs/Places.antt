@@ -22,19 +22,19 @@ pub record Batch : Type 0 where
   pub closed : Bool
 
 -- a delta and its documents under a staged number
-pub record Held : Type 0 where
+pub record IndexerHeld : Type 0 where
   pub config : IndexConfig  -- that of the index
   pub number : ℕ
   pub delta : List Part
   pub documents : List Placed
 
-pub data Place : Type 0 where
-  idle : Place
-  reading : Batch → Place
-  staged : Held → Place
-  uploaded : Held → Place
+pub data IndexerPlace : Type 0 where
+  idle : IndexerPlace
+  reading : Batch → IndexerPlace
+  staged : IndexerHeld → IndexerPlace
+  uploaded : IndexerHeld → IndexerPlace
 
-abbrev pub is_idle : Place → Bool
+abbrev pub is_idle : IndexerPlace → Bool
 is_idle idle = true
 is_idle (reading batch) = false
 is_idle (staged held) = false
@@ -42,29 +42,29 @@ is_idle (uploaded held) = false
 
 pub record Indexer : Type 0 where
   pub assignment : Option (List (List ℕ))
-  pub place : Place
+  pub place : IndexerPlace
   pub log_faults : ℕ
 
 -- ---- what is known of what it holds
 
 -- the facts of a delta's split
-abbrev pub held_facts : Held → RowFacts
+abbrev pub held_facts : IndexerHeld → RowFacts
 held_facts held = facts_of held.config held.documents (record_count held.delta - length held.documents)
 
-pub record IsStagedHeld (log : Log) (core : Core) (held : Held) : Type 0 where
+pub record IsStagedHeld (log : Log) (core : Core) (held : IndexerHeld) : Type 0 where
   pub configured : IsConfigured held.config core
   pub unused : IsUnusedIn core held.number
   pub staged : HasStagedIn core held.number held.delta (held_facts held)
   pub made : IsMade held.config log held.delta (held_facts held) (file_of held.config held.documents)
 
-pub record IsUploadedHeld (log : Log) (core : Core) (held : Held) : Type 0 where
+pub record IsUploadedHeld (log : Log) (core : Core) (held : IndexerHeld) : Type 0 where
   pub configured : IsConfigured held.config core
   pub uploaded : IsUploadedIn core held.number (file_of held.config held.documents)
   pub staged : HasStagedIn core held.number held.delta (held_facts held)
   pub made : IsMade held.config log held.delta (held_facts held) (file_of held.config held.documents)
 
 -- the number that it holds, if it holds one
-abbrev pub number_held : Place → Option ℕ
+abbrev pub number_held : IndexerPlace → Option ℕ
 number_held idle = None
 number_held (reading batch) = None
 number_held (staged held) = Some held.number

@@ -19,8 +19,8 @@ use Rattle.index_world.specs.World.{GoesOn}
 use Rattle.indexing_run.specs.declared.batch.Batch.{Batch as HeldBatch}
 use Rattle.indexing_run.specs.declared.batch.NextRead.{NextRead}
 use Rattle.indexing_run.specs.declared.indexer.Indexer.{Indexer as Reader}
-use Rattle.indexing_run.specs.declared.indexer.Place.{Place as HeldPlace}
-use Rattle.indexing_run.specs.declared.indexer.Place.TheVariants as places
+use Rattle.indexing_run.specs.declared.indexer.IndexerPlace.{IndexerPlace as HeldPlace}
+use Rattle.indexing_run.specs.declared.indexer.IndexerPlace.TheVariants as places
 use Rattle.indexing_run.specs.declared.queue.Queue.{Queue}
 use Rattle.indexing_run.specs.declared.outcome.IndexerOutcome.{IndexerOutcome as Said}
 use Rattle.indexing_run.specs.declared.outcome.IndexerOutcome.TheVariants as said
@@ -28,7 +28,7 @@ use Rattle.indexing_run.specs.Asking.{ask_of, IsCallFree}
 use Rattle.indexing_run.specs.Gathering.{HasDocuments}
 use Rattle.indexing_run.specs.Making.{Follows, IsBatch, IsAssigned}
 use Rattle.indexing_run.specs.Outcomes.{IndexerOutcome, Checkpoint, Read, Staged, Uploaded, Published, CaughtUp, Stale, Lost, Refused, SourceFault, Faulted}
-use Rattle.indexing_run.specs.Places.{Batch, Held, Place, idle, reading, staged, uploaded, Indexer, IsStagedHeld, IsUploadedHeld, number_held}
+use Rattle.indexing_run.specs.Places.{Batch, IndexerHeld, IndexerPlace, idle, reading, staged, uploaded, Indexer, IsStagedHeld, IsUploadedHeld, number_held}
 use Rattle.indexing_run.specs.Steps.{taken_from, max_batch_weight, start_of, batch_after, IndexerLuck, step_indexer}
 
 -- ---- outcomes
@@ -102,14 +102,14 @@ batch_read batch mark rest records now =
     batch_after batch mark rest (taken_from batch.config mark.partition mark.at records.list (start_of batch)) records.end now
 
 -- what is held is what the place says, made of the log and in hand
-abbrev pub PlaceStands : Log → Core → HeldPlace → Place → Type 0
+abbrev pub PlaceStands : Log → Core → HeldPlace → IndexerPlace → Type 0
 PlaceStands log core places.Idle place = place ≡ idle
 PlaceStands log core (places.Reading held) place =
     (batch : Batch) × (place ≡ reading batch) × BatchStands held batch × IsBatch log batch × IsConfigured batch.config core
 PlaceStands log core (places.Staged token bytes) place =
-    (held : Held) × (place ≡ staged held) × (token.number ≡ held.number) × (bytes ≡ file_of held.config held.documents) × IsStagedHeld log core held
+    (held : IndexerHeld) × (place ≡ staged held) × (token.number ≡ held.number) × (bytes ≡ file_of held.config held.documents) × IsStagedHeld log core held
 PlaceStands log core (places.Uploaded token) place =
-    (held : Held) × (place ≡ uploaded held) × (token.number ≡ held.number) × IsUploadedHeld log core held
+    (held : IndexerHeld) × (place ≡ uploaded held) × (token.number ≡ held.number) × IsUploadedHeld log core held
 
 -- a staged number that it holds is its own at the gate
 abbrev pub HoldsOwn : {W : Type 0} → (W → ℕ → Type 0) → W → HeldPlace → Type 0

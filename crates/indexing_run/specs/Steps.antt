@@ -23,7 +23,7 @@ use Rattle.index_world.specs.SplitFile.{file_of, facts_of}
 use Rattle.split_bundle.specs.Documents.{weight, total_weight}
 use Rattle.indexing_run.specs.Outcomes.{IndexerOutcome}
 use Rattle.indexing_run.specs.Outcomes as said
-use Rattle.indexing_run.specs.Places.{Batch, Held, Place, idle, reading, staged, uploaded, Indexer}
+use Rattle.indexing_run.specs.Places.{Batch, IndexerHeld, IndexerPlace, idle, reading, staged, uploaded, Indexer}
 
 -- The fate of one call of a log: whether it fails, by how much its count rises, and whether there is no memory for the names
 -- of an idle indexer's partitions, read or copied.
@@ -45,7 +45,7 @@ pub record Stepped : Type 0 where
   pub core : Core
 
 -- a step that ends with this outcome, the indexer at this place
-abbrev pub stepped : Option IndexerOutcome → Place → Indexer → Core → Stepped
+abbrev pub stepped : Option IndexerOutcome → IndexerPlace → Indexer → Core → Stepped
 stepped outcome place indexer core = record { outcome = outcome; indexer = record indexer { place = place }; core = core }
 
 abbrev pub trouble_outcome : Trouble → Option IndexerOutcome
@@ -219,7 +219,7 @@ step_read luck log batch (mark ∷ rest) indexer core =
 
 -- ---- a closed batch: stage, upload, publish
 
-abbrev pub held_of : Batch → ℕ → Held
+abbrev pub held_of : Batch → ℕ → IndexerHeld
 held_of batch number = record { config = batch.config; number = number; delta = batch.parts; documents = batch.documents }
 
 -- the facts of a batch's split: so many of its records are no documents
@@ -241,14 +241,14 @@ stage_given batch indexer given = stage_by given.answer batch indexer given.core
 abbrev pub step_stage : IndexerLuck → Batch → Indexer → Core → Stepped
 step_stage luck batch indexer core = stage_given batch indexer (stage_call batch.parts (batch_facts batch) luck.world core)
 
-abbrev pub upload_by : Result ⊤ Trouble → Held → Indexer → Core → Stepped
+abbrev pub upload_by : Result ⊤ Trouble → IndexerHeld → Indexer → Core → Stepped
 upload_by (Ok done) held indexer core = stepped (Some (said.Uploaded held.number)) (uploaded held) indexer core
 upload_by (Err trouble) held indexer core = stepped (trouble_outcome trouble) idle indexer core
 
-abbrev pub upload_given : Held → Indexer → Gives Trouble ⊤ → Stepped
+abbrev pub upload_given : IndexerHeld → Indexer → Gives Trouble ⊤ → Stepped
 upload_given held indexer given = upload_by given.answer held indexer given.core
 
-abbrev pub step_upload : IndexerLuck → Held → Indexer → Core → Stepped
+abbrev pub step_upload : IndexerLuck → IndexerHeld → Indexer → Core → Stepped
 step_upload luck held indexer core = upload_given held indexer (upload_made luck.world held.number (file_of held.config held.documents) core)
 
 -- a refused Publish: the delta's own stale part, or else the row is lost
@@ -275,14 +275,14 @@ abbrev pub publish_outcome : ℕ → Unmade → Option IndexerOutcome
 publish_outcome number (refused refusal) = Some (publish_refused number refusal)
 publish_outcome number (troubled trouble) = trouble_outcome trouble
 
-abbrev pub publish_by : Result ⊤ Unmade → Held → Indexer → Core → Stepped
+abbrev pub publish_by : Result ⊤ Unmade → IndexerHeld → Indexer → Core → Stepped
 publish_by (Ok done) held indexer core = stepped (Some (said.Published held.number)) idle indexer core
 publish_by (Err unmade) held indexer core = stepped (publish_outcome held.number unmade) idle indexer core
 
-abbrev pub publish_given : Held → Indexer → Gives Unmade ⊤ → Stepped
+abbrev pub publish_given : IndexerHeld → Indexer → Gives Unmade ⊤ → Stepped
 publish_given held indexer given = publish_by given.answer held indexer given.core
 
-abbrev pub step_publish : IndexerLuck → Held → Indexer → Core → Stepped
+abbrev pub step_publish : IndexerLuck → IndexerHeld → Indexer → Core → Stepped
 step_publish luck held indexer core = publish_given held indexer (publish_call held.number luck.world core)
 
 -- ---- a step
@@ -293,7 +293,7 @@ step_batch luck log batch indexer core =
     then (if batch.count == 0 then stepped (Some said.CaughtUp) idle indexer core else step_stage luck batch indexer core)
     else step_read luck log batch batch.queue indexer core
 
-abbrev pub step_place : Place → IndexerLuck → Log → Indexer → Core → Stepped
+abbrev pub step_place : IndexerPlace → IndexerLuck → Log → Indexer → Core → Stepped
 step_place idle luck log indexer core = step_idle luck log indexer core
 step_place (reading batch) luck log indexer core = step_batch luck log batch indexer core
 step_place (staged held) luck log indexer core = step_upload luck held indexer core

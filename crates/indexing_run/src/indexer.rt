@@ -11,7 +11,7 @@ ghost use Rattle.index_world.specs.Core.{Core, IsConfigured, IsUnusedIn};
 ghost use Rattle.index_world.specs.Gate.{IsTrouble, IsUnmade, IsPublishable};
 ghost use Rattle.index_world.specs.SplitFile.{file_of};
 ghost use Rattle.indexing_run.specs.Making.{IsBatch, IsAssigned};
-ghost use Rattle.indexing_run.specs.Places.{Batch as Made, Held, Indexer as Actor, IsStagedHeld, IsUploadedHeld, is_idle, idle, reading, staged as staged_at, uploaded as uploaded_at};
+ghost use Rattle.indexing_run.specs.Places.{Batch as Made, IndexerHeld, Indexer as Actor, IsStagedHeld, IsUploadedHeld, is_idle, idle, reading, staged as staged_at, uploaded as uploaded_at};
 ghost use Rattle.indexing_run.specs.Ending.{fault_said, unstaged_said, refused_said, unpublished_said, Ends, EndsIdle, EndsOpen, EndsClosed, EndsBatch, EndsUpload, EndsPublish, EndsStep};
 ghost use Rattle.indexing_run.specs.Steps.{trouble_outcome, publish_refused, publish_outcome, stage_outcome};
 ghost use Rattle.indexing_run.specs.Standing.{BatchStands, IndexerStands, IsSaid, Answers, NamesGiven, HoldsOwn, StepsAs};
@@ -30,7 +30,7 @@ use std::mem;
 
 // Where an indexer is.
 #[derive(Drop)]
-enum Place {
+enum IndexerPlace {
     Idle,
     Reading(Batch),
     Staged(Staged, Bytes),
@@ -38,7 +38,7 @@ enum Place {
 }
 
 // Puts an indexer there, and lets go of what it held.
-fn put(place: &mut Place, next: Place)
+fn put(place: &mut IndexerPlace, next: IndexerPlace)
     ensures { place.new ≡ next }
 {
     let before = mem::replace(place, next);
@@ -50,7 +50,7 @@ fn put(place: &mut Place, next: Place)
 pub struct Indexer<L: SourceLog> {
     log: L,
     assignment: Option<Partitions>,
-    place: Place,
+    place: IndexerPlace,
 }
 
 // A fault of the world; want of memory is the step's own answer.
@@ -142,14 +142,14 @@ impl<L: SourceLog> Indexer<L> {
     /// An idle indexer of a log, which reads all its partitions.
     pub fn start(log: L) -> Indexer<L>
         ensures log { result.log ≡ log }
-        ensures idle { result.place ≡ Place.Idle }
+        ensures idle { result.place ≡ IndexerPlace.Idle }
         ensures stands { (core : Core) (read : Log) → L.told log ≡ Some read →
             IndexerStands L.told L.fault_count result (record { assignment = None; place = idle; log_faults = L.fault_count log }) core read }
     {
         Indexer {
             log,
             assignment: None,
-            place: Place::Idle,
+            place: IndexerPlace::Idle,
         }
     }
 
@@ -157,20 +157,20 @@ impl<L: SourceLog> Indexer<L> {
     pub fn restart(&mut self)
         ensures log { self.new.log ≡ self.old.log }
         ensures assignment { self.new.assignment ≡ self.old.assignment }
-        ensures idle { self.new.place ≡ Place.Idle }
+        ensures idle { self.new.place ≡ IndexerPlace.Idle }
         ensures stands { (indexer : Actor) (core after : Core) (read : Log) → IndexerStands L.told L.fault_count self.old indexer core read →
             IndexerStands L.told L.fault_count self.new (record indexer { place = idle }) after read }
     {
-        put(&mut self.place, Place::Idle);
+        put(&mut self.place, IndexerPlace::Idle);
     }
 
     pub fn is_idle(&self) -> bool
         ensures stands { (indexer : Actor) (core : Core) (read : Log) → IndexerStands L.told L.fault_count self.now indexer core read →
             result ≡ is_idle indexer.place }
-        ensures exact { IsTrue result ↔ (self.now.place ≡ Place.Idle) }
+        ensures exact { IsTrue result ↔ (self.now.place ≡ IndexerPlace.Idle) }
     {
         match &self.place {
-            Place::Idle => true,
+            IndexerPlace::Idle => true,
             _ => false,
         }
     }
@@ -225,7 +225,7 @@ impl<L: SourceLog> Indexer<L> {
         ensures owns { HoldsOwn G.Owns gate.old self.old.place → HoldsOwn G.Owns gate.new self.new.place }
         ensures assignment { self.new.assignment ≡ self.old.assignment }
         // Whatever the log and the gate tell.
-        ensures ends { self.old.place ≡ Place.Idle → Ends (EndsIdle (λ call. G.Answers gate.old call gate.new) (L.fault_count self.old.log) (L.fault_count self.new.log) (L.told self.old.log) self.old.assignment (G.configured gate.new)) result self.new.place }
+        ensures ends { self.old.place ≡ IndexerPlace.Idle → Ends (EndsIdle (λ call. G.Answers gate.old call gate.new) (L.fault_count self.old.log) (L.fault_count self.new.log) (L.told self.old.log) self.old.assignment (G.configured gate.new)) result self.new.place }
         ensures step { (indexer : Actor) (core : Core) (read : Log) →
             IndexerStands L.told L.fault_count self.old (record indexer { place = idle }) core read → G.Stands gate.old core read →
             StepsAs L.told L.fault_count G.Stands G.Between G.Owns G.Adds result (record indexer { place = idle }) core read self.new gate.old gate.new }
@@ -242,7 +242,7 @@ impl<L: SourceLog> Indexer<L> {
             Ok(marks) => {
                 let config = gate.config().copy(alloc)?;
                 let batch = Batch::begin(alloc, config, &names, &marks)?;
-                put(&mut self.place, Place::Reading(batch));
+                put(&mut self.place, IndexerPlace::Reading(batch));
                 Ok(IndexerOutcome::Checkpoint)
             }
             Err(error) => faulted(error),
@@ -260,7 +260,7 @@ impl<L: SourceLog> Indexer<L> {
         ensures owns { HoldsOwn G.Owns gate.old self.old.place → HoldsOwn G.Owns gate.new self.new.place }
         ensures assignment { self.new.assignment ≡ self.old.assignment }
         // Whatever the log and the gate tell.
-        ensures ends { self.old.place ≡ Place.Idle → Ends (EndsOpen (λ call. G.Answers gate.old call gate.new) (L.fault_count self.old.log) (L.fault_count self.new.log) batch) result self.new.place }
+        ensures ends { self.old.place ≡ IndexerPlace.Idle → Ends (EndsOpen (λ call. G.Answers gate.old call gate.new) (L.fault_count self.old.log) (L.fault_count self.new.log) batch) result self.new.place }
         ensures step { (indexer : Actor) (core : Core) (read : Log) (made : Made) →
             IndexerStands L.told L.fault_count self.old (record indexer { place = idle }) core read → G.Stands gate.old core read → BatchStands batch made → IsBatch read made → IsConfigured made.config core → made.closed ≡ false →
             StepsAs L.told L.fault_count G.Stands G.Between G.Owns G.Adds result (record indexer { place = reading made }) core read self.new gate.old gate.new }
@@ -282,7 +282,7 @@ impl<L: SourceLog> Indexer<L> {
         match records {
             Ok(records) => {
                 let (batch, count) = batch.take(alloc, &next.partition, next.from, &records, now)?;
-                put(&mut self.place, Place::Reading(batch));
+                put(&mut self.place, IndexerPlace::Reading(batch));
                 Ok(IndexerOutcome::Read { count })
             }
             Err(ReadError::Memory(refused)) => {
@@ -290,7 +290,7 @@ impl<L: SourceLog> Indexer<L> {
                 Err(refused)
             }
             Err(ReadError::Failed) => {
-                put(&mut self.place, Place::Reading(batch));
+                put(&mut self.place, IndexerPlace::Reading(batch));
                 Ok(IndexerOutcome::SourceFault { before, after })
             }
         }
@@ -307,7 +307,7 @@ impl<L: SourceLog> Indexer<L> {
         ensures owns { HoldsOwn G.Owns gate.old self.old.place → HoldsOwn G.Owns gate.new self.new.place }
         ensures assignment { self.new.assignment ≡ self.old.assignment }
         // Whatever the log and the gate tell.
-        ensures ends { self.old.place ≡ Place.Idle → (batch.count ≡ 0 → ⊥) → Ends (EndsClosed (λ call. G.Answers gate.old call gate.new) batch) result self.new.place }
+        ensures ends { self.old.place ≡ IndexerPlace.Idle → (batch.count ≡ 0 → ⊥) → Ends (EndsClosed (λ call. G.Answers gate.old call gate.new) batch) result self.new.place }
         ensures step { (indexer : Actor) (core : Core) (read : Log) (made : Made) →
             IndexerStands L.told L.fault_count self.old (record indexer { place = idle }) core read → G.Stands gate.old core read → BatchStands batch made → IsBatch read made → IsConfigured made.config core → made.closed ≡ true → (made.count ≡ 0 → ⊥) →
             StepsAs L.told L.fault_count G.Stands G.Between G.Owns G.Adds result (record indexer { place = reading made }) core read self.new gate.old gate.new }
@@ -328,7 +328,7 @@ impl<L: SourceLog> Indexer<L> {
         match staged {
             Ok(staged) => {
                 let number = staged.number;
-                put(&mut self.place, Place::Staged(staged, bytes));
+                put(&mut self.place, IndexerPlace::Staged(staged, bytes));
                 Ok(IndexerOutcome::Staged { number })
             }
             Err(error) => {
@@ -352,15 +352,15 @@ impl<L: SourceLog> Indexer<L> {
         ensures owns { HoldsOwn G.Owns gate.old self.old.place → HoldsOwn G.Owns gate.new self.new.place }
         ensures assignment { self.new.assignment ≡ self.old.assignment }
         // Whatever the log and the gate tell.
-        ensures ends { self.old.place ≡ Place.Idle → Ends (EndsUpload (λ call. G.Answers gate.old call gate.new) staged.number bytes.now (G.told gate.old) (G.told gate.new)) result self.new.place }
-        ensures step { (indexer : Actor) (core : Core) (read : Log) (held : Held) →
+        ensures ends { self.old.place ≡ IndexerPlace.Idle → Ends (EndsUpload (λ call. G.Answers gate.old call gate.new) staged.number bytes.now (G.told gate.old) (G.told gate.new)) result self.new.place }
+        ensures step { (indexer : Actor) (core : Core) (read : Log) (held : IndexerHeld) →
             IndexerStands L.told L.fault_count self.old (record indexer { place = idle }) core read → G.Stands gate.old core read → staged.number ≡ held.number → bytes.now ≡ file_of held.config held.documents → IsStagedHeld read core held →
             StepsAs L.told L.fault_count G.Stands G.Between G.Owns G.Adds result (record indexer { place = staged_at held }) core read self.new gate.old gate.new }
     {
         let number = staged.number;
         match gate.upload(alloc, staged, bytes.as_slice()) {
             Ok(uploaded) => {
-                put(&mut self.place, Place::Uploaded(uploaded));
+                put(&mut self.place, IndexerPlace::Uploaded(uploaded));
                 Ok(IndexerOutcome::Uploaded { number })
             }
             Err(error) => faulted(error),
@@ -379,8 +379,8 @@ impl<L: SourceLog> Indexer<L> {
         ensures owns { HoldsOwn G.Owns gate.old self.old.place → HoldsOwn G.Owns gate.new self.new.place }
         ensures assignment { self.new.assignment ≡ self.old.assignment }
         // Whatever the log and the gate tell.
-        ensures ends { self.old.place ≡ Place.Idle → Ends (EndsPublish (λ call. G.Answers gate.old call gate.new) uploaded.number) result self.new.place }
-        ensures step { (indexer : Actor) (core : Core) (read : Log) (held : Held) →
+        ensures ends { self.old.place ≡ IndexerPlace.Idle → Ends (EndsPublish (λ call. G.Answers gate.old call gate.new) uploaded.number) result self.new.place }
+        ensures step { (indexer : Actor) (core : Core) (read : Log) (held : IndexerHeld) →
             IndexerStands L.told L.fault_count self.old (record indexer { place = idle }) core read → G.Stands gate.old core read → uploaded.number ≡ held.number → IsUploadedHeld read core held →
             StepsAs L.told L.fault_count G.Stands G.Between G.Owns G.Adds result (record indexer { place = uploaded_at held }) core read self.new gate.old gate.new }
     {
@@ -402,7 +402,7 @@ impl<L: SourceLog> Indexer<L> {
         ensures owns { HoldsOwn G.Owns gate.old self.old.place → HoldsOwn G.Owns gate.new self.new.place }
         ensures assignment { self.new.assignment ≡ self.old.assignment }
         // Whatever the log and the gate tell.
-        ensures ends { self.old.place ≡ Place.Idle → Ends (EndsBatch (λ call. G.Answers gate.old call gate.new) (L.fault_count self.old.log) (L.fault_count self.new.log) batch) result self.new.place }
+        ensures ends { self.old.place ≡ IndexerPlace.Idle → Ends (EndsBatch (λ call. G.Answers gate.old call gate.new) (L.fault_count self.old.log) (L.fault_count self.new.log) batch) result self.new.place }
         ensures step { (indexer : Actor) (core : Core) (read : Log) (made : Made) →
             IndexerStands L.told L.fault_count self.old (record indexer { place = idle }) core read → G.Stands gate.old core read → BatchStands batch made → IsBatch read made → IsConfigured made.config core →
             StepsAs L.told L.fault_count G.Stands G.Between G.Owns G.Adds result (record indexer { place = reading made }) core read self.new gate.old gate.new }
@@ -436,11 +436,11 @@ impl<L: SourceLog> Indexer<L> {
             IndexerStands L.told L.fault_count self.old indexer core read → G.Stands gate.old core read →
             StepsAs L.told L.fault_count G.Stands G.Between G.Owns G.Adds result indexer core read self.new gate.old gate.new }
     {
-        match mem::replace(&mut self.place, Place::Idle) {
-            Place::Idle => self.take_checkpoints(alloc, gate),
-            Place::Reading(batch) => self.go_on(alloc, gate, batch),
-            Place::Staged(staged, bytes) => self.upload(alloc, gate, staged, &bytes),
-            Place::Uploaded(uploaded) => self.publish(alloc, gate, uploaded),
+        match mem::replace(&mut self.place, IndexerPlace::Idle) {
+            IndexerPlace::Idle => self.take_checkpoints(alloc, gate),
+            IndexerPlace::Reading(batch) => self.go_on(alloc, gate, batch),
+            IndexerPlace::Staged(staged, bytes) => self.upload(alloc, gate, staged, &bytes),
+            IndexerPlace::Uploaded(uploaded) => self.publish(alloc, gate, uploaded),
         }
     }
 }

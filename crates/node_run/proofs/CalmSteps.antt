@@ -12,7 +12,7 @@ use Rattle.index_world.specs.Core.{Core, last_count}
 use Rattle.index_world.specs.Gate.{stage_call, publish_call, stage_act, task_act, task_call}
 use Rattle.index_world.specs.SplitFile.{file_of}
 use Rattle.indexing_run.specs.Outcomes as said
-use Rattle.indexing_run.specs.Places.{Batch, Held, Place, idle, reading, staged, uploaded, Indexer}
+use Rattle.indexing_run.specs.Places.{Batch, IndexerHeld, IndexerPlace, idle, reading, staged, uploaded, Indexer}
 use Rattle.indexing_run.specs.Steps.{LogCall, Stepped, stepped, log_may_fail, log_called, checkpoints_by, checkpoints_given, take_checkpoints, idle_by, step_idle, read_by, read_given, read_asked, step_read, stage_given, step_stage, batch_facts, upload_given, step_upload, publish_given, step_publish, step_batch, step_place, step_indexer}
 use Rattle.indexing_run.specs.Steps as indexing
 use Rattle.root_search.specs.Requests.{ask_of, asked_of}
@@ -162,11 +162,11 @@ stage_calms : (batch : Batch) (indexer : Indexer) (g g' : Gives Unmade ⊤) → 
 stage_calms batch indexer g g' (inl e) = inl (ap (λ r. (indexing.stage_by r batch indexer g.core).outcome) e)
 stage_calms batch indexer g g' (inr e) = inr (ap (stage_given batch indexer) e)
 
-upload_calms : (held : Held) (indexer : Indexer) (g g' : Gives Trouble ⊤) → Calms no_memory g g' → StepCalms (upload_given held indexer g) (upload_given held indexer g')
+upload_calms : (held : IndexerHeld) (indexer : Indexer) (g g' : Gives Trouble ⊤) → Calms no_memory g g' → StepCalms (upload_given held indexer g) (upload_given held indexer g')
 upload_calms held indexer g g' (inl e) = inl (ap (λ r. (indexing.upload_by r held indexer g.core).outcome) e)
 upload_calms held indexer g g' (inr e) = inr (ap (upload_given held indexer) e)
 
-publish_calms : (held : Held) (indexer : Indexer) (g g' : Gives Unmade ⊤) → Calms (troubled no_memory) g g' → StepCalms (publish_given held indexer g) (publish_given held indexer g')
+publish_calms : (held : IndexerHeld) (indexer : Indexer) (g g' : Gives Unmade ⊤) → Calms (troubled no_memory) g g' → StepCalms (publish_given held indexer g) (publish_given held indexer g')
 publish_calms held indexer g g' (inl e) = inl (ap (λ r. (indexing.publish_by r held indexer g.core).outcome) e)
 publish_calms held indexer g g' (inr e) = inr (ap (publish_given held indexer) e)
 
@@ -191,13 +191,13 @@ module _ (luck : indexing.IndexerLuck) (log : Log) (indexer : Indexer) (core : C
       stage_calms batch indexer given (stage_call batch.parts (batch_facts batch) calm_fate core)
       (appended_calms luck.world (stage_act batch.parts (batch_facts batch)) core s (handed core given.core _ (stage_same given.answer batch indexer given.core) same))
 
-  step_upload_calms : (held : Held) → StepIs (step_upload luck held indexer core) (step_upload calm_indexing held indexer core)
+  step_upload_calms : (held : IndexerHeld) → StepIs (step_upload luck held indexer core) (step_upload calm_indexing held indexer core)
   step_upload_calms held same same_log =
       let given = file_made luck.world.first (split_key held.number) (file_of held.config held.documents) core in
       upload_calms held indexer given (file_made calm_call (split_key held.number) (file_of held.config held.documents) core)
       (file_made_calms luck.world.first (split_key held.number) (file_of held.config held.documents) core s (handed core given.core _ (upload_same given.answer held indexer given.core) same))
 
-  step_publish_calms : (held : Held) → StepIs (step_publish luck held indexer core) (step_publish calm_indexing held indexer core)
+  step_publish_calms : (held : IndexerHeld) → StepIs (step_publish luck held indexer core) (step_publish calm_indexing held indexer core)
   step_publish_calms held same same_log =
       let given = publish_call held.number luck.world core in
       publish_calms held indexer given (publish_call held.number calm_fate core)
@@ -215,7 +215,7 @@ module _ (luck : indexing.IndexerLuck) (log : Log) (indexer : Indexer) (core : C
       (stepped (Some said.CaughtUp) idle indexer core) (step_stage calm_indexing batch indexer core) (λ same same_log. inr refl) (step_stage_calms batch))
       (step_read_calms batch batch.queue)
 
-  place_calms : (place : Place) → StepIs (step_place place luck log indexer core) (step_place place calm_indexing log indexer core)
+  place_calms : (place : IndexerPlace) → StepIs (step_place place luck log indexer core) (step_place place calm_indexing log indexer core)
   place_calms idle same same_log = unless_calms luck log indexer core s below luck.log.short same_log
   place_calms (reading batch) same same_log = batch_calms batch same same_log
   place_calms (staged held) same same_log = step_upload_calms held same same_log

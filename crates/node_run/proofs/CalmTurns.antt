@@ -12,7 +12,7 @@ use Rattle.indexing_run.specs.Steps.{Stepped, step_indexer}
 use Rattle.root_search.specs.Steps.{Searched, step_client}
 use Rattle.split_collector.specs.Steps.{step_collector}
 use Rattle.split_collector.specs.Steps as collecting
-use Rattle.upkeep_run.specs.Places.{Place as Worker}
+use Rattle.upkeep_run.specs.Places.{WorkerPlace as Worker}
 use Rattle.upkeep_run.specs.Steps.{step_worker}
 use Rattle.upkeep_run.specs.Steps as working
 use Rattle.upkeep_run.specs.declared.work.Aim.{Aim}

@@ -11,11 +11,11 @@ use Rattle.index_world.specs.Core.{Core, last_count}
 use Rattle.index_world.specs.Gate.{stage_call, publish_call}
 use Rattle.index_world.specs.SplitFile.{file_of}
 use Rattle.indexing_run.specs.Outcomes as said
-use Rattle.indexing_run.specs.Places.{Batch, Held, Place, idle, reading, staged, uploaded, Indexer}
+use Rattle.indexing_run.specs.Places.{Batch, IndexerHeld, IndexerPlace, idle, reading, staged, uploaded, Indexer}
 use Rattle.indexing_run.specs.Steps.{Stepped, stepped, log_may_fail, log_called, take_checkpoints, idle_by, read_by, read_given, step_read, stage_by, step_stage, batch_facts, upload_by, publish_by, step_batch, step_place, step_indexer}
 use Rattle.indexing_run.specs.Steps as indexing
 use Rattle.root_search.specs.Steps.{Request, no_request, opened, planned, Client}
-use Rattle.upkeep_run.specs.Places.{Place as Worker}
+use Rattle.upkeep_run.specs.Places.{WorkerPlace as Worker}
 use Rattle.upkeep_run.specs.Steps.{step_worker}
 use Rattle.upkeep_run.specs.declared.work.Aim.{Aim}
 use Rattle.upkeep_run.specs.declared.work.Aim.TheVariants.{Deleting, Merging}
@@ -40,11 +40,11 @@ stage_count : (r : Result ⊤ Unmade) (batch : Batch) (indexer : Indexer) (core 
 stage_count (Ok done) batch indexer core = refl
 stage_count (Err e) batch indexer core = refl
 
-upload_count : (r : Result ⊤ Trouble) (held : Held) (indexer : Indexer) (core : Core) → (upload_by r held indexer core).indexer.log_faults ≡ indexer.log_faults
+upload_count : (r : Result ⊤ Trouble) (held : IndexerHeld) (indexer : Indexer) (core : Core) → (upload_by r held indexer core).indexer.log_faults ≡ indexer.log_faults
 upload_count (Ok done) held indexer core = refl
 upload_count (Err e) held indexer core = refl
 
-publish_count : (r : Result ⊤ Unmade) (held : Held) (indexer : Indexer) (core : Core) → (publish_by r held indexer core).indexer.log_faults ≡ indexer.log_faults
+publish_count : (r : Result ⊤ Unmade) (held : IndexerHeld) (indexer : Indexer) (core : Core) → (publish_by r held indexer core).indexer.log_faults ≡ indexer.log_faults
 publish_count (Ok done) held indexer core = refl
 publish_count (Err e) held indexer core = refl
 
@@ -90,7 +90,7 @@ module _ (luck : indexing.IndexerLuck) (log : Log) (indexer : Indexer) where
   unless_counts true core = called_counts
   unless_counts false core = idle_counts (log_may_fail luck.log indexer.log_faults) indexer.assignment core
 
-  place_counts : (place : Place) (core : Core) → Counts (step_place place luck log indexer core)
+  place_counts : (place : IndexerPlace) (core : Core) → Counts (step_place place luck log indexer core)
   place_counts idle core = unless_counts luck.log.short core
   place_counts (reading batch) core = batch_counts batch core
   place_counts (staged held) core =
@@ -152,7 +152,7 @@ module _ (node : Node) where
   set_idle : (i : ℕ) → NoneFell (log_counts node.indexers) (log_counts (slice_set node.indexers i (made_idle (indexer_at node.indexers i))))
   set_idle i = set_counts node.indexers i (made_idle (indexer_at node.indexers i)) (same_count (indexer_at node.indexers i).log_faults _ refl)
 
-  assign_counted : (place : Place) (i : ℕ) (names : List (List ℕ)) → Counted (assign_at place i names (indexer_at node.indexers i) node).node
+  assign_counted : (place : IndexerPlace) (i : ℕ) (names : List (List ℕ)) → Counted (assign_at place i names (indexer_at node.indexers i) node).node
   assign_counted idle i names =
       set_counts node.indexers i (record (indexer_at node.indexers i) { assignment = Some names }) (same_count (indexer_at node.indexers i).log_faults _ refl)
   assign_counted (reading batch) i names = unchanged node.indexers refl

@@ -10,7 +10,7 @@ use Rattle.index_world.specs.Calls as calls
 use Rattle.index_world.specs.Core.{Core}
 use Rattle.index_world.specs.Gate.{stage_act, task_act, task_call}
 use Rattle.index_world.specs.SplitFile.{file_of}
-use Rattle.indexing_run.specs.Places.{Batch, Held, Place, idle, reading, staged, uploaded, Indexer}
+use Rattle.indexing_run.specs.Places.{Batch, IndexerHeld, IndexerPlace, idle, reading, staged, uploaded, Indexer}
 use Rattle.indexing_run.specs.Steps.{Stepped, log_may_fail, log_called, checkpoints_by, take_checkpoints, idle_by, read_by, read_given, step_read, stage_by, step_stage, batch_facts, upload_by, step_upload, publish_by, step_publish, step_batch, step_place, step_indexer}
 use Rattle.indexing_run.specs.Steps as indexing
 use Rattle.root_search.specs.Requests.{ask_of, asked_of}
@@ -21,7 +21,7 @@ use Rattle.search_api.specs.Resolved.{Asked, IsDelete, IsSearch, Search}
 use Rattle.search_api.specs.declared.reply.Refusal.{Refusal}
 use Rattle.search_api.specs.declared.unanswered.Unanswered.{Unanswered}
 use Rattle.search_api.specs.declared.unanswered.Unanswered.TheVariants as reasons
-use Rattle.upkeep_run.specs.Places.{Place as Worker}
+use Rattle.upkeep_run.specs.Places.{WorkerPlace as Worker}
 use Rattle.upkeep_run.specs.declared.work.Aim.{Aim}
 use Rattle.upkeep_run.specs.declared.work.Aim.TheVariants.{Deleting, Merging}
 use Rattle.node_run.specs.Node.{Node, Line, At, Assign, StepIndexer, RestartIndexer, RestartClient, StepMerger, RestartMerger, StepDeleter, RestartDeleter, StepCollector, RestartCollector, RestartNode, Open, StepClient, Outcome}
@@ -40,11 +40,11 @@ pub stage_same : (r : Result ⊤ Unmade) (batch : Batch) (indexer : Indexer) (co
 stage_same (Ok done) batch indexer core = refl
 stage_same (Err trouble) batch indexer core = refl
 
-pub upload_same : (r : Result ⊤ Trouble) (held : Held) (indexer : Indexer) (core : Core) → (upload_by r held indexer core).core ≡ core
+pub upload_same : (r : Result ⊤ Trouble) (held : IndexerHeld) (indexer : Indexer) (core : Core) → (upload_by r held indexer core).core ≡ core
 upload_same (Ok done) held indexer core = refl
 upload_same (Err trouble) held indexer core = refl
 
-pub publish_same : (r : Result ⊤ Unmade) (held : Held) (indexer : Indexer) (core : Core) → (publish_by r held indexer core).core ≡ core
+pub publish_same : (r : Result ⊤ Unmade) (held : IndexerHeld) (indexer : Indexer) (core : Core) → (publish_by r held indexer core).core ≡ core
 publish_same (Ok done) held indexer core = refl
 publish_same (Err trouble) held indexer core = refl
 
@@ -90,11 +90,11 @@ module _ (luck : indexing.IndexerLuck) (log : Log) (indexer : Indexer) (core : C
   stage_moves batch =
       moves_on (appended_moves luck.world (stage_act batch.parts (batch_facts batch)) core) (same (stage_same _ batch indexer _))
 
-  upload_moves : (held : Held) → Moves core (step_upload luck held indexer core).core
+  upload_moves : (held : IndexerHeld) → Moves core (step_upload luck held indexer core).core
   upload_moves held =
       moves_on (file_made_moves luck.world.first (split_key held.number) (file_of held.config held.documents) core) (same (upload_same _ held indexer _))
 
-  publish_moves : (held : Held) → Moves core (step_publish luck held indexer core).core
+  publish_moves : (held : IndexerHeld) → Moves core (step_publish luck held indexer core).core
   publish_moves held =
       moves_on (appended_moves luck.world (λ c. Publish held.number) core) (same (publish_same _ held indexer _))
 
@@ -102,7 +102,7 @@ module _ (luck : indexing.IndexerLuck) (log : Log) (indexer : Indexer) (core : C
   batch_moves batch =
       choice_moves batch.closed _ _ (choice_moves (batch.count == 0) _ _ (stays refl) (stage_moves batch)) (read_moves batch batch.queue)
 
-  place_moves : (place : Place) → Moves core (step_place place luck log indexer core).core
+  place_moves : (place : IndexerPlace) → Moves core (step_place place luck log indexer core).core
   place_moves idle = unless_moves luck.log.short
   place_moves (reading batch) = batch_moves batch
   place_moves (staged held) = upload_moves held
@@ -165,7 +165,7 @@ module _ (luck : searching.ClientLuck) (log : Log) (client : Client) (core : Cor
 
 -- ---- a line
 
-pub assign_same : (place : Place) (i : ℕ) (names : List (List ℕ)) (indexer : Indexer) (node : Node) → (assign_at place i names indexer node).node.core ≡ node.core
+pub assign_same : (place : IndexerPlace) (i : ℕ) (names : List (List ℕ)) (indexer : Indexer) (node : Node) → (assign_at place i names indexer node).node.core ≡ node.core
 assign_same idle i names indexer node = refl
 assign_same (reading batch) i names indexer node = refl
 assign_same (staged held) i names indexer node = refl

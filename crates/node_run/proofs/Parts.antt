@@ -20,7 +20,7 @@ use Rattle.index_world.specs.World.{Keeping, WorldStands, GoesOn}
 use Rattle.indexing_run.proofs.Holding.{indexer_stays}
 use Rattle.indexing_run.specs.Outcomes.{IndexerOutcome}
 use Rattle.indexing_run.specs.Making.{IsAssigned}
-use Rattle.indexing_run.specs.Places.{Indexer, Place, reading, staged, uploaded, idle, is_idle, number_held}
+use Rattle.indexing_run.specs.Places.{Indexer, IndexerPlace, reading, staged, uploaded, idle, is_idle, number_held}
 use Rattle.node_run.specs.Alone.{CollectsAlone, SearchesAlone, StepsAlone}
 use Rattle.node_run.specs.Lines.{AreNames}
 use Rattle.node_run.specs.Seen.{seen}
@@ -28,8 +28,8 @@ use Rattle.node_run.specs.declared.line.Line.{Line as CodeLine}
 use Rattle.node_run.specs.declared.drive.Accepts.TheVariants as accepts
 use Rattle.indexing_run.specs.Standing.{IndexerStands, PlaceStands, Answers, IsSaid as IsIndexerSaid}
 use Rattle.indexing_run.specs.declared.indexer.Indexer.{Indexer as Reader}
-use Rattle.indexing_run.specs.declared.indexer.Place.{Place as HeldPlace}
-use Rattle.indexing_run.specs.declared.indexer.Place.TheVariants as places
+use Rattle.indexing_run.specs.declared.indexer.IndexerPlace.{IndexerPlace as HeldPlace}
+use Rattle.indexing_run.specs.declared.indexer.IndexerPlace.TheVariants as places
 use Rattle.indexing_run.specs.declared.outcome.IndexerOutcome.{IndexerOutcome as Said}
 use Rattle.root_search.proofs.Stands.{searcher_goes_on}
 use Rattle.root_search.specs.Searching.{SearcherStands, IsRequest}
@@ -49,7 +49,7 @@ use Rattle.split_collector.specs.declared.outcome.CollectorOutcome.{CollectorOut
 use Rattle.upkeep_run.specs.Places as workers
 use Rattle.upkeep_run.specs.Standing as works
 use Rattle.upkeep_run.specs.declared.work.Aim.TheVariants.{Deleting, Merging}
-use Rattle.upkeep_run.specs.declared.work.Place.{Place as WorkerPlace}
+use Rattle.upkeep_run.specs.declared.work.WorkerPlace.{WorkerPlace as WorkerPlace}
 use Rattle.node_run.specs.declared.drive.DriveNode.{DriveNode}
 use Rattle.node_run.specs.declared.out_line.OutLine.{OutLine}
 use Rattle.node_run.specs.Lines.{outcome_text}
@@ -532,14 +532,14 @@ quiet_along {S} {L} told count since firsts node a b new e stands =
 pub whole_back : {X : Type 0} (new old : List X) (len : ℕ) → length new ≡ length old → len ≡ length old → take len (new ++ drop (length new) old) ≡ new
 whole_back new old len e l = take_at new (drop (length new) old) len (e ∙ sym l)
 
-pub assign_idle : (place : Place) (i : ℕ) (names : List (List ℕ)) (indexer : Indexer) (node : Node) → is_idle place ≡ true →
+pub assign_idle : (place : IndexerPlace) (i : ℕ) (names : List (List ℕ)) (indexer : Indexer) (node : Node) → is_idle place ≡ true →
     assign_at place i names indexer node ≡ turned (assigned i (length names)) (with_indexer i (record indexer { assignment = Some names }) node)
 assign_idle idle i names indexer node e = refl
 assign_idle (reading batch) i names indexer node e = cc
 assign_idle (staged held) i names indexer node e = cc
 assign_idle (uploaded held) i names indexer node e = cc
 
-pub assign_busy : (place : Place) (i : ℕ) (names : List (List ℕ)) (indexer : Indexer) (node : Node) → is_idle place ≡ false →
+pub assign_busy : (place : IndexerPlace) (i : ℕ) (names : List (List ℕ)) (indexer : Indexer) (node : Node) → is_idle place ≡ false →
     assign_at place i names indexer node ≡ turned (indexer_busy i) node
 assign_busy idle i names indexer node e = cc
 assign_busy (reading batch) i names indexer node e = refl

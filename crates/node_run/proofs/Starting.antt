@@ -11,7 +11,7 @@ use Rattle.indexing_run.specs.declared.indexer.Indexer.{Indexer as Reader}
 use Rattle.upkeep_run.specs.Places.{idle}
 use Rattle.upkeep_run.specs.Standing.{PlaceStands}
 use Rattle.upkeep_run.specs.declared.work.Aim.TheVariants.{Deleting, Merging}
-use Rattle.upkeep_run.specs.declared.work.Place.{Place as WorkerPlace}
+use Rattle.upkeep_run.specs.declared.work.WorkerPlace.{WorkerPlace as WorkerPlace}
 use Rattle.node_run.specs.Turns.{reader_of}
 use Rattle.node_run.proofs.Workers.{idle_other, idle_work_apart}
 use Rattle.node_run.specs.Standing.{IsFresh, PartsStand, fresh_node, HoldApart, AllApart}

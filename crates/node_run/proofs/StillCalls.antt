@@ -12,7 +12,7 @@ use Rattle.index_world.specs.Core.{Core, file_at}
 use Rattle.index_world.specs.Gate.{raise_call, replace_call, stage_call, publish_call, stage_act, task_act, task_call}
 use Rattle.index_world.specs.SplitFile.{file_of}
 use Rattle.indexing_run.specs.Outcomes as said
-use Rattle.indexing_run.specs.Places.{Batch, Held, Place, idle, reading, staged, uploaded, Indexer}
+use Rattle.indexing_run.specs.Places.{Batch, IndexerHeld, IndexerPlace, idle, reading, staged, uploaded, Indexer}
 use Rattle.indexing_run.specs.Steps.{Stepped, stepped, log_may_fail, log_called, take_checkpoints, idle_by, step_read, step_stage, batch_facts, step_upload, step_publish, step_batch, step_place, step_indexer}
 use Rattle.root_search.specs.Requests.{ask_of, asked_of}
 use Rattle.root_search.specs.Steps.{Request, no_request, opened, planned, Plan, Client, config_in, plan_given, opened_by, next_step, step_request, step_client}
@@ -110,12 +110,12 @@ module _ (log : Log) (indexer : Indexer) (core : Core) (s : IsStill core) where
       let given = stage_call batch.parts (batch_facts batch) calm_fate core in
       handed given.core _ (stage_same given.answer batch indexer given.core) (appended_still (stage_act batch.parts (batch_facts batch)) core s)
 
-  upload_still : (held : Held) → IsStill (step_upload calm_indexing held indexer core).core
+  upload_still : (held : IndexerHeld) → IsStill (step_upload calm_indexing held indexer core).core
   upload_still held =
       let given = file_made calm_call (split_key held.number) (file_of held.config held.documents) core in
       handed given.core _ (upload_same given.answer held indexer given.core) (file_made_still (split_key held.number) (file_of held.config held.documents) core s)
 
-  publish_still : (held : Held) → IsStill (step_publish calm_indexing held indexer core).core
+  publish_still : (held : IndexerHeld) → IsStill (step_publish calm_indexing held indexer core).core
   publish_still held =
       let given = publish_call held.number calm_fate core in
       handed given.core _ (publish_same given.answer held indexer given.core) (appended_still (λ c. Publish held.number) core s)
@@ -131,7 +131,7 @@ module _ (log : Log) (indexer : Indexer) (core : Core) (s : IsStill core) where
       (choice_still (batch.count == 0) (stepped (Some said.CaughtUp) idle indexer core) (step_stage calm_indexing batch indexer core) s (stage_still batch))
       (read_still batch batch.queue)
 
-  place_still : (place : Place) → IsStill (step_place place calm_indexing log indexer core).core
+  place_still : (place : IndexerPlace) → IsStill (step_place place calm_indexing log indexer core).core
   place_still idle = idle_still (log_may_fail calm_indexing.log indexer.log_faults) indexer.assignment
   place_still (reading batch) = batch_still batch
   place_still (staged held) = upload_still held
@@ -177,7 +177,7 @@ module _ (log : Log) (core : Core) (s : IsStill core) where
       let given = asked_and_looked calm_fate core in
       handed given.core _ (planned_same aim given.answer log given.core) (looked_still (asked_clock core) (asked_still core s))
 
-  staged_still : (held : ℕ → workers.Held) → IsStill (working.step_stage calm_working held core).core
+  staged_still : (held : ℕ → workers.WorkerHeld) → IsStill (working.step_stage calm_working held core).core
   staged_still held =
       let given = stage_call [] (workers.held_facts (held 0)) calm_fate core in
       handed given.core _ (staged_same given.answer held given.core) (appended_still (stage_act [] (workers.held_facts (held 0))) core s)
@@ -204,7 +204,7 @@ module _ (log : Log) (core : Core) (s : IsStill core) where
       let given = fetched (working.grace_in work) calm_fate core in
       handed given.core _ (fetched_same given.answer work row.number more given.core) (fetched_still (working.grace_in work) core s)
 
-  pub worker_still : (aim : Aim) (place : workers.Place) → IsStill (working.step_worker aim calm_working log place core).core
+  pub worker_still : (aim : Aim) (place : workers.WorkerPlace) → IsStill (working.step_worker aim calm_working log place core).core
   worker_still aim workers.idle = planned_still aim
   worker_still aim (workers.fetching work) = work_still aim work work.unfetched
   worker_still aim (workers.staged held) =
@@ -240,7 +240,7 @@ module _ (node : Node) (s : IsStill node.core) where
   client_turn_still true name = s
   client_turn_still false name = client_still node.log (client_named name node.clients) node.core s
 
-  worker_turn_still : (down : Bool) (aim : Aim) (worker : workers.Place) (keep : workers.Place → Node → Node) → IsStill (worker_turn_by down aim worker keep calm node).node.core
+  worker_turn_still : (down : Bool) (aim : Aim) (worker : workers.WorkerPlace) (keep : workers.WorkerPlace → Node → Node) → IsStill (worker_turn_by down aim worker keep calm node).node.core
   worker_turn_still true aim worker keep = s
   worker_turn_still false aim worker keep = worker_still node.log node.core s aim worker
 

@@ -19,13 +19,13 @@ use Rattle.index_world.specs.SplitFile.{file_of}
 use Rattle.index_world.specs.World.{Keeping, WorldStands}
 use Rattle.index_world.proofs.Indexing.{All-get}
 use Rattle.indexing_run.specs.Outcomes.{IndexerOutcome}
-use Rattle.indexing_run.specs.Places.{Batch, Held, Place, idle, reading, staged, uploaded, Indexer}
+use Rattle.indexing_run.specs.Places.{Batch, IndexerHeld, IndexerPlace, idle, reading, staged, uploaded, Indexer}
 use Rattle.indexing_run.specs.Standing.{PlaceStands, IndexerStands}
 use Rattle.indexing_run.specs.Steps.{Stepped, log_may_fail, log_called, checkpoints_by, take_checkpoints, idle_by, read_by, read_given, step_read, stage_by, batch_facts, upload_by, publish_by, publish_refused, step_batch, step_place, step_indexer}
 use Rattle.indexing_run.specs.Steps as indexing
 use Rattle.indexing_run.specs.declared.indexer.Indexer.{Indexer as Reader}
-use Rattle.indexing_run.specs.declared.indexer.Place.{Place as HeldPlace}
-use Rattle.indexing_run.specs.declared.indexer.Place.TheVariants as places
+use Rattle.indexing_run.specs.declared.indexer.IndexerPlace.{IndexerPlace as HeldPlace}
+use Rattle.indexing_run.specs.declared.indexer.IndexerPlace.TheVariants as places
 use Rattle.root_search.specs.Requests.{ask_of, asked_of}
 use Rattle.root_search.specs.Steps.{Request, no_request, opened, planned, Plan, Client, config_at, config_in, state_refusal, plan_by, plan_given, delete_by, opened_by, fetch_by, fetched_each, next_step, step_request, step_client}
 use Rattle.root_search.specs.Steps as searching
@@ -36,11 +36,11 @@ use Rattle.search_api.specs.declared.unanswered.Unanswered.{Unanswered}
 use Rattle.search_api.specs.declared.unanswered.Unanswered.TheVariants as reasons
 use Rattle.split_collector.specs.Outcomes.{Outcome as CollectorOutcome}
 use Rattle.upkeep_run.specs.Outcomes.{UpkeepOutcome}
-use Rattle.upkeep_run.specs.Places.{Place as Worker}
+use Rattle.upkeep_run.specs.Places.{WorkerPlace as Worker}
 use Rattle.upkeep_run.specs.Standing as works
 use Rattle.upkeep_run.specs.declared.work.Aim.{Aim}
 use Rattle.upkeep_run.specs.declared.work.Aim.TheVariants.{Deleting, Merging}
-use Rattle.upkeep_run.specs.declared.work.Place.{Place as WorkerPlace}
+use Rattle.upkeep_run.specs.declared.work.WorkerPlace.{WorkerPlace as WorkerPlace}
 use Rattle.node_run.specs.Node.{Node, Line, At, Assign, StepIndexer, RestartIndexer, RestartClient, StepMerger, RestartMerger, StepDeleter, RestartDeleter, StepCollector, RestartCollector, RestartNode, Open, StepClient, Outcome}
 use Rattle.node_run.specs.Telling.{IndexerMayTell, IsOfText, RefusalMayTell, SearchMayTell, LineMayTell}
 use Rattle.node_run.specs.Turns.{LineLuck, Turned, indexer_or, indexer_at, indexing_luck, searching_luck, said_by_indexer, said_by_client, assign_at, indexer_turn_by, client_turn_by, client_named, working_luck, said_by_worker, worker_turn_by, with_deleter, with_merger, collecting_luck, collector_turn_by, said_by_collector, open_by, restart_by, full_turn, or_quiet, turn_by, Turn}
@@ -83,7 +83,7 @@ publish_tells number (TooManyTasks count) = tt
 publish_tells number (TooManyRows count) = tt
 publish_tells number (TooManySpans count) = tt
 
-abbrev PlaceIsFree : Core → Place → Type 0
+abbrev PlaceIsFree : Core → IndexerPlace → Type 0
 PlaceIsFree core idle = Unit {0}
 PlaceIsFree core (reading batch) = Unit {0}
 PlaceIsFree core (staged held) = IsFree core (split_key held.number)
@@ -125,11 +125,11 @@ module _ (luck : indexing.IndexerLuck) (log : Log) (core : Core) (low : AreLow (
   stage_tells (Err (refused refusal)) batch indexer c h = tt
   stage_tells (Err (troubled trouble)) batch indexer c h = unmade_tells trouble h
 
-  upload_tells : (r : Result ⊤ Trouble) (held : Held) (indexer : Indexer) (c : Core) → IfErr IsStoreTrouble r → StepTells (upload_by r held indexer c).outcome
+  upload_tells : (r : Result ⊤ Trouble) (held : IndexerHeld) (indexer : Indexer) (c : Core) → IfErr IsStoreTrouble r → StepTells (upload_by r held indexer c).outcome
   upload_tells (Ok done) held indexer c h = tt
   upload_tells (Err trouble) held indexer c h = trouble_tells trouble h
 
-  published_tells : (r : Result ⊤ Unmade) (held : Held) (indexer : Indexer) (c : Core) → IfErr IsOwnTrouble r → StepTells (publish_by r held indexer c).outcome
+  published_tells : (r : Result ⊤ Unmade) (held : IndexerHeld) (indexer : Indexer) (c : Core) → IfErr IsOwnTrouble r → StepTells (publish_by r held indexer c).outcome
   published_tells (Ok done) held indexer c h = tt
   published_tells (Err (refused refusal)) held indexer c h = publish_tells held.number refusal
   published_tells (Err (troubled trouble)) held indexer c h = unmade_tells trouble h
@@ -145,7 +145,7 @@ module _ (luck : indexing.IndexerLuck) (log : Log) (core : Core) (low : AreLow (
       (choice_tells (batch.count == 0) _ _ tt (stage_tells given.answer batch indexer given.core (appended_own luck.world (stage_act batch.parts (batch_facts batch)) core low)))
       (read_tells batch batch.queue indexer)
 
-  place_tells : (place : Place) (indexer : Indexer) → PlaceIsFree core place → StepTells (step_place place luck log indexer core).outcome
+  place_tells : (place : IndexerPlace) (indexer : Indexer) → PlaceIsFree core place → StepTells (step_place place luck log indexer core).outcome
   place_tells idle indexer f = unless_tells luck.log.short indexer
   place_tells (reading batch) indexer f = batch_tells batch indexer
   place_tells (staged held) indexer f =
@@ -292,7 +292,7 @@ free_or core None f = tt
 free_or core (Some indexer) f = f indexer refl
 
 module _ (luck : LineLuck) (node : Node) (own : IsOwn node) where
-  assign_tells : (place : Place) (i : ℕ) (names : List (List ℕ)) (indexer : Indexer) → LineMayTell (assign_at place i names indexer node).said
+  assign_tells : (place : IndexerPlace) (i : ℕ) (names : List (List ℕ)) (indexer : Indexer) → LineMayTell (assign_at place i names indexer node).said
   assign_tells idle i names indexer = tt
   assign_tells (reading batch) i names indexer = tt
   assign_tells (staged held) i names indexer = tt
@@ -352,7 +352,7 @@ turn_tells node line said last own turn = subst (λ t. LineMayTell t.said) turn.
 
 -- ---- a node of the code
 
-placed_free : (log : Log) (core : Core) (held : HeldPlace) (place : Place) → PlaceStands log core held place → PlaceIsFree core place
+placed_free : (log : Log) (core : Core) (held : HeldPlace) (place : IndexerPlace) → PlaceStands log core held place → PlaceIsFree core place
 placed_free log core places.Idle place s = subst (PlaceIsFree core) (sym s) tt
 placed_free log core (places.Reading held) place s = subst (PlaceIsFree core) (sym s.1) tt
 placed_free log core (places.Staged token bytes) place s =

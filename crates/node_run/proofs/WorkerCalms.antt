@@ -8,7 +8,7 @@ use Rattle.split_states.specs.declared.rows.Row.{Row}
 use Rattle.index_world.specs.Calls.{Gives, Trouble, Unmade, asked_and_looked, calm_call, calm_fate, fetched, file_made, no_memory, troubled, upload_made}
 use Rattle.index_world.specs.Core.{Core}
 use Rattle.index_world.specs.Gate.{raise_call, replace_call, stage_act, stage_call}
-use Rattle.upkeep_run.specs.Places.{Held, Place, Work, fetching, held_facts, held_file, idle, staged, uploaded}
+use Rattle.upkeep_run.specs.Places.{WorkerHeld, WorkerPlace, Work, fetching, held_facts, held_file, idle, staged, uploaded}
 use Rattle.upkeep_run.specs.Steps.{WorkerLuck, Stepped, drops_none, fetch_by, fetch_given, first_number, grace_in, held_of, or_short, plan_by, plan_given, raise_by, raise_given, replace_by, replace_given, stage_by, stage_given, step_close, step_place, step_raise, step_stage, step_work, step_worker, upload_by, upload_given}
 use Rattle.upkeep_run.specs.declared.work.Aim.{Aim}
 use Rattle.upkeep_run.specs.declared.work.Aim.TheVariants.{Deleting, Merging}
@@ -33,7 +33,7 @@ fetch_calms : (work : Work) (number : ℕ) (more : List Row) (g g' : Gives Troub
 fetch_calms work number more g g' (inl e) = inl (ap (λ r. (fetch_by r work number more g.core).outcome) e)
 fetch_calms work number more g g' (inr e) = inr (ap (fetch_given work number more) e)
 
-stage_calms : (held : ℕ → Held) (g g' : Gives Unmade ⊤) → Calms (troubled no_memory) g g' → WorkCalms (stage_given held g) (stage_given held g')
+stage_calms : (held : ℕ → WorkerHeld) (g g' : Gives Unmade ⊤) → Calms (troubled no_memory) g g' → WorkCalms (stage_given held g) (stage_given held g')
 stage_calms held g g' (inl e) = inl (ap (λ r. (stage_by r held g.core).outcome) e)
 stage_calms held g g' (inr e) = inr (ap (stage_given held) e)
 
@@ -41,7 +41,7 @@ raise_calms : (number : ℕ) (g g' : Gives Unmade ⊤) → Calms (troubled no_me
 raise_calms number g g' (inl e) = inl (ap (λ r. (raise_by r number g.core).outcome) e)
 raise_calms number g g' (inr e) = inr (ap (raise_given number) e)
 
-upload_calms : (held : Held) (g g' : Gives Trouble ⊤) → Calms no_memory g g' → WorkCalms (upload_given held g) (upload_given held g')
+upload_calms : (held : WorkerHeld) (g g' : Gives Trouble ⊤) → Calms no_memory g g' → WorkCalms (upload_given held g) (upload_given held g')
 upload_calms held g g' (inl e) = inl (ap (λ r. (upload_by r held g.core).outcome) e)
 upload_calms held g g' (inr e) = inr (ap (upload_given held) e)
 
@@ -65,7 +65,7 @@ module _ (luck : WorkerLuck) (log : Log) (core : Core) (s : IsStill core) where
       plan_calms aim log given (asked_and_looked calm_fate core)
       (asked_and_looked_calms luck.world core s (handed core given.core _ (planned_same aim given.answer log given.core) same))
 
-  step_stage_calms : (held : ℕ → Held) → StepIs (step_stage luck held core) (step_stage calm_working held core)
+  step_stage_calms : (held : ℕ → WorkerHeld) → StepIs (step_stage luck held core) (step_stage calm_working held core)
   step_stage_calms held same =
       let given = stage_call [] (held_facts (held 0)) luck.world core in
       stage_calms held given (stage_call [] (held_facts (held 0)) calm_fate core)
@@ -95,19 +95,19 @@ module _ (luck : WorkerLuck) (log : Log) (core : Core) (s : IsStill core) where
       fetch_calms work row.number more given (fetched (grace_in work) calm_fate core)
       (fetched_calms (grace_in work) luck.world core s (handed core given.core _ (fetched_same given.answer work row.number more given.core) same))
 
-  step_upload_calms : (aim : Aim) (held : Held) → StepIs (step_place aim (staged held) luck log core) (step_place aim (staged held) calm_working log core)
+  step_upload_calms : (aim : Aim) (held : WorkerHeld) → StepIs (step_place aim (staged held) luck log core) (step_place aim (staged held) calm_working log core)
   step_upload_calms aim held same =
       let given = upload_made luck.world held.number (held_file held) core in
       upload_calms held given (file_made calm_call (split_key held.number) (held_file held) core)
       (file_made_calms luck.world.first (split_key held.number) (held_file held) core s (handed core given.core _ (uploaded_same given.answer held given.core) same))
 
-  step_replace_calms : (aim : Aim) (held : Held) → StepIs (step_place aim (uploaded held) luck log core) (step_place aim (uploaded held) calm_working log core)
+  step_replace_calms : (aim : Aim) (held : WorkerHeld) → StepIs (step_place aim (uploaded held) luck log core) (step_place aim (uploaded held) calm_working log core)
   step_replace_calms aim held same =
       let given = replace_call held.number held.old held.upto luck.world core in
       replace_calms held.number given (replace_call held.number held.old held.upto calm_fate core)
       (appended_calms luck.world (λ c. Replace held.number held.old held.upto) core s (handed core given.core _ (replaced_same given.answer held.number given.core) same))
 
-  place_calms : (aim : Aim) (place : Place) → StepIs (step_place aim place luck log core) (step_place aim place calm_working log core)
+  place_calms : (aim : Aim) (place : WorkerPlace) → StepIs (step_place aim place luck log core) (step_place aim place calm_working log core)
   place_calms aim idle = step_plan_calms aim
   place_calms aim (fetching work) = work_calms aim work work.unfetched
   place_calms aim (staged held) = step_upload_calms aim held
@@ -117,5 +117,5 @@ module _ (luck : WorkerLuck) (log : Log) (core : Core) (s : IsStill core) where
   short_calms true x y h same = inl refl
   short_calms false x y h same = h same
 
-  pub worker_calms : (aim : Aim) (place : Place) → StepIs (step_worker aim luck log place core) (step_worker aim calm_working log place core)
+  pub worker_calms : (aim : Aim) (place : WorkerPlace) → StepIs (step_worker aim luck log place core) (step_worker aim calm_working log place core)
   worker_calms aim place = short_calms luck.short (step_place aim place luck log core) (step_place aim place calm_working log core) (place_calms aim place)

@@ -8,7 +8,7 @@ use Rattle.split_states.specs.declared.rows.Row.{Row}
 use Rattle.index_world.specs.Calls.{Trouble, Unmade}
 use Rattle.index_world.specs.Core.{Core}
 use Rattle.index_world.specs.Gate.{stage_act}
-use Rattle.upkeep_run.specs.Places.{Held, Place, Work, fetching, held_facts, held_file, idle, staged, uploaded}
+use Rattle.upkeep_run.specs.Places.{WorkerHeld, WorkerPlace, Work, fetching, held_facts, held_file, idle, staged, uploaded}
 use Rattle.upkeep_run.specs.Steps.{WorkerLuck, Stepped, drops_none, fetch_by, first_number, grace_in, held_of, or_short, plan_by, plan_with, raise_by, replace_by, rows_in, stage_by, step_close, step_place, step_raise, step_stage, step_work, step_worker, upload_by, work_in}
 use Rattle.upkeep_run.specs.declared.work.Aim.{Aim}
 use Rattle.upkeep_run.specs.declared.work.Aim.TheVariants.{Deleting, Merging}
@@ -28,7 +28,7 @@ pub fetched_same : (r : Result ⊤ Trouble) (work : Work) (number : ℕ) (more :
 fetched_same (Ok done) work number more core = refl
 fetched_same (Err trouble) work number more core = refl
 
-pub staged_same : (r : Result ⊤ Unmade) (held : ℕ → Held) (core : Core) → (stage_by r held core).core ≡ core
+pub staged_same : (r : Result ⊤ Unmade) (held : ℕ → WorkerHeld) (core : Core) → (stage_by r held core).core ≡ core
 staged_same (Ok done) held core = refl
 staged_same (Err unmade) held core = refl
 
@@ -36,7 +36,7 @@ pub raised_same : (r : Result ⊤ Unmade) (number : ℕ) (core : Core) → (rais
 raised_same (Ok done) number core = refl
 raised_same (Err unmade) number core = refl
 
-pub uploaded_same : (r : Result ⊤ Trouble) (held : Held) (core : Core) → (upload_by r held core).core ≡ core
+pub uploaded_same : (r : Result ⊤ Trouble) (held : WorkerHeld) (core : Core) → (upload_by r held core).core ≡ core
 uploaded_same (Ok done) held core = refl
 uploaded_same (Err trouble) held core = refl
 
@@ -55,7 +55,7 @@ choice_moves true x y m n = m
 choice_moves false x y m n = n
 
 module _ (luck : WorkerLuck) (log : Log) (core : Core) where
-  stage_moves : (held : ℕ → Held) → Moves core (step_stage luck held core).core
+  stage_moves : (held : ℕ → WorkerHeld) → Moves core (step_stage luck held core).core
   stage_moves held = moves_on (appended_moves luck.world (stage_act [] (held_facts (held 0))) core) (same (staged_same _ held _))
 
   raise_moves : (number upto : ℕ) → Moves core (step_raise luck number upto core).core
@@ -69,11 +69,11 @@ module _ (luck : WorkerLuck) (log : Log) (core : Core) where
   work_moves aim work [] = close_moves aim work
   work_moves aim work (row ∷ more) = moves_on (fetched_moves (grace_in work) luck.world core) (same (fetched_same _ work row.number more _))
 
-  place_moves : (aim : Aim) (place : Place) → Moves core (step_place aim place luck log core).core
+  place_moves : (aim : Aim) (place : WorkerPlace) → Moves core (step_place aim place luck log core).core
   place_moves aim idle = moves_on (asked_and_looked_moves luck.world core) (same (planned_same aim _ log _))
   place_moves aim (fetching work) = work_moves aim work work.unfetched
   place_moves aim (staged held) = moves_on (file_made_moves luck.world.first (split_key held.number) (held_file held) core) (same (uploaded_same _ held _))
   place_moves aim (uploaded held) = moves_on (appended_moves luck.world (λ c. Replace held.number held.old held.upto) core) (same (replaced_same _ held.number _))
 
-  pub worker_moves : (aim : Aim) (place : Place) → Moves core (step_worker aim luck log place core).core
+  pub worker_moves : (aim : Aim) (place : WorkerPlace) → Moves core (step_worker aim luck log place core).core
   worker_moves aim place = moves_on (place_moves aim place) (same (short_same luck.short _))

@@ -13,13 +13,13 @@ use Rattle.root_search.proofs.Stands.{searcher_goes_on}
 use Rattle.root_search.specs.Searching.{SearcherStands}
 use Rattle.root_search.specs.Steps.{Client}
 use Rattle.root_search.specs.declared.searcher.Searcher.{Searcher}
-use Rattle.upkeep_run.specs.Places.{Place as Worker}
+use Rattle.upkeep_run.specs.Places.{WorkerPlace as Worker}
 use Rattle.upkeep_run.specs.Places as workers
 use Rattle.upkeep_run.specs.Standing as works
 use Rattle.upkeep_run.specs.declared.work.Aim.{Aim}
 use Rattle.upkeep_run.specs.declared.work.Aim.TheVariants.{Deleting, Merging}
 use Rattle.upkeep_run.specs.declared.outcome.UpkeepOutcome.{UpkeepOutcome as Worked}
-use Rattle.upkeep_run.specs.declared.work.Place.{Place as WorkerPlace}
+use Rattle.upkeep_run.specs.declared.work.WorkerPlace.{WorkerPlace}
 use Rattle.node_run.specs.Alone.{WorksAlone}
 use Rattle.node_run.specs.Node.{Node, StepDeleter, StepMerger}
 use Rattle.node_run.specs.Standing.{HoldsOther, PartsStand}

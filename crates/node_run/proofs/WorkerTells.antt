@@ -9,13 +9,13 @@ use Rattle.index_world.specs.Calls.{Fault, Trouble, Unmade, asked_and_looked, fa
 use Rattle.index_world.specs.Core.{Core}
 use Rattle.index_world.specs.Gate.{raise_call, replace_call, stage_act, stage_call}
 use Rattle.upkeep_run.specs.Outcomes.{UpkeepOutcome}
-use Rattle.upkeep_run.specs.Places.{Held, Place, Work, fetching, held_facts, held_file, idle, staged, uploaded}
+use Rattle.upkeep_run.specs.Places.{WorkerHeld, WorkerPlace, Work, fetching, held_facts, held_file, idle, staged, uploaded}
 use Rattle.upkeep_run.specs.Standing.{PlaceStands}
 use Rattle.upkeep_run.specs.Steps.{WorkerLuck, Stepped, drops_none, fetch_by, first_number, grace_in, held_of, or_short, plan_by, plan_with, raise_by, replace_by, rows_in, stage_by, step_close, step_place, step_raise, step_stage, step_work, step_worker, trouble_outcome, upload_by, work_in}
 use Rattle.upkeep_run.specs.declared.work.Aim.{Aim}
 use Rattle.upkeep_run.specs.declared.work.Aim.TheVariants.{Deleting, Merging}
-use Rattle.upkeep_run.specs.declared.work.Place.{Place as HeldPlace}
-use Rattle.upkeep_run.specs.declared.work.Place.TheVariants as places
+use Rattle.upkeep_run.specs.declared.work.WorkerPlace.{WorkerPlace as HeldPlace}
+use Rattle.upkeep_run.specs.declared.work.WorkerPlace.TheVariants as places
 use Rattle.node_run.specs.Telling.{IsNotForeign, IsOfStore, IsOfWork, WorkerMayTell}
 use Rattle.node_run.proofs.CallTells.{AreLow, IfErr, IsFetchTrouble, IsFree, IsOwnTrouble, IsStoreTrouble, appended_own, asked_and_looked_own, fetched_own, file_own}
 
@@ -67,12 +67,12 @@ module _ (aim : Aim) where
   fetched_tells (Ok done) work number more core h = tt
   fetched_tells (Err trouble) work number more core h = fetch_tells trouble h
 
-  staged_tells : (r : Result ⊤ Unmade) (held : ℕ → Held) (core : Core) → IfErr IsOwnTrouble r → WorkTells aim (stage_by r held core).outcome
+  staged_tells : (r : Result ⊤ Unmade) (held : ℕ → WorkerHeld) (core : Core) → IfErr IsOwnTrouble r → WorkTells aim (stage_by r held core).outcome
   staged_tells (Ok done) held core h = tt
   staged_tells (Err (refused refusal)) held core h = tt
   staged_tells (Err (troubled trouble)) held core h = own_tells trouble h
 
-  uploaded_tells : (r : Result ⊤ Trouble) (held : Held) (core : Core) → IfErr IsStoreTrouble r → WorkTells aim (upload_by r held core).outcome
+  uploaded_tells : (r : Result ⊤ Trouble) (held : WorkerHeld) (core : Core) → IfErr IsStoreTrouble r → WorkTells aim (upload_by r held core).outcome
   uploaded_tells (Ok done) held core h = tt
   uploaded_tells (Err trouble) held core h = store_tells trouble h
 
@@ -93,7 +93,7 @@ raised_tells (Err (troubled trouble)) number core h = own_tells Deleting trouble
 -- ---- a step
 
 -- nothing stands under the key of the file that it is about to make
-abbrev pub WorkerIsFree : Core → Place → Type 0
+abbrev pub WorkerIsFree : Core → WorkerPlace → Type 0
 WorkerIsFree core idle = Unit {0}
 WorkerIsFree core (fetching work) = Unit {0}
 WorkerIsFree core (staged held) = IsFree core (split_key held.number)
@@ -104,7 +104,7 @@ choice_tells aim true x y h k = h
 choice_tells aim false x y h k = k
 
 module _ (luck : WorkerLuck) (log : Log) (core : Core) (low : AreLow (length core.history) core) where
-  stage_tells : (aim : Aim) (held : ℕ → Held) → WorkTells aim (step_stage luck held core).outcome
+  stage_tells : (aim : Aim) (held : ℕ → WorkerHeld) → WorkTells aim (step_stage luck held core).outcome
   stage_tells aim held =
       let given = stage_call [] (held_facts (held 0)) luck.world core in
       staged_tells aim given.answer held given.core (appended_own luck.world (stage_act [] (held_facts (held 0))) core low)
@@ -126,7 +126,7 @@ module _ (luck : WorkerLuck) (log : Log) (core : Core) (low : AreLow (length cor
       let given = fetched (grace_in work) luck.world core in
       fetched_tells aim given.answer work row.number more given.core (fetched_own (grace_in work) luck.world core)
 
-  place_tells : (aim : Aim) (place : Place) → WorkerIsFree core place → WorkTells aim (step_place aim place luck log core).outcome
+  place_tells : (aim : Aim) (place : WorkerPlace) → WorkerIsFree core place → WorkTells aim (step_place aim place luck log core).outcome
   place_tells aim idle free =
       let given = asked_and_looked luck.world core in
       plan_tells aim given.answer log given.core (asked_and_looked_own luck.world core)
@@ -138,12 +138,12 @@ module _ (luck : WorkerLuck) (log : Log) (core : Core) (low : AreLow (length cor
       let given = replace_call held.number held.old held.upto luck.world core in
       replaced_tells aim given.answer held.number given.core (appended_own luck.world (λ c. Replace held.number held.old held.upto) core low)
 
-  pub worker_tells : (aim : Aim) (place : Place) → WorkerIsFree core place → WorkTells aim (step_worker aim luck log place core).outcome
+  pub worker_tells : (aim : Aim) (place : WorkerPlace) → WorkerIsFree core place → WorkTells aim (step_worker aim luck log place core).outcome
   worker_tells aim place free = short_tells aim luck.short (step_place aim place luck log core) (place_tells aim place free)
 
 -- ---- a worker of the code
 
-pub worker_free : (aim : Aim) (log : Log) (core : Core) (kept : HeldPlace) (place : Place) → PlaceStands aim log core kept place → WorkerIsFree core place
+pub worker_free : (aim : Aim) (log : Log) (core : Core) (kept : HeldPlace) (place : WorkerPlace) → PlaceStands aim log core kept place → WorkerIsFree core place
 worker_free aim log core places.Idle place s = subst (WorkerIsFree core) (sym s) tt
 worker_free aim log core (places.Fetching held) place s = subst (WorkerIsFree core) (sym s.1) tt
 worker_free aim log core (places.Staged plan token bytes) place s =

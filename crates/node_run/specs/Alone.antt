@@ -20,13 +20,13 @@ use Rattle.split_collector.specs.Standing as collects
 use Rattle.split_collector.specs.Steps.{CollectorLuck as CollectingLuck, step_collector}
 use Rattle.split_collector.specs.declared.outcome.CollectorOutcome.{CollectorOutcome as Collected}
 use Rattle.upkeep_run.specs.Outcomes.{UpkeepOutcome}
-use Rattle.upkeep_run.specs.Places.{Place as Worker}
+use Rattle.upkeep_run.specs.Places.{WorkerPlace as Worker}
 use Rattle.upkeep_run.specs.Places as workers
 use Rattle.upkeep_run.specs.Standing as works
 use Rattle.upkeep_run.specs.Steps.{WorkerLuck as WorkingLuck, step_worker}
 use Rattle.upkeep_run.specs.declared.outcome.UpkeepOutcome.{UpkeepOutcome as Worked}
 use Rattle.upkeep_run.specs.declared.work.Aim.{Aim}
-use Rattle.upkeep_run.specs.declared.work.Place.{Place as WorkerPlace}
+use Rattle.upkeep_run.specs.declared.work.WorkerPlace.{WorkerPlace as WorkerPlace}
 
 -- it is the client's step with some luck, and what it leaves stands for what that leaves
 pub record SearchesAlone (result : Result SearchStep AllocError) (new : Searcher) (world : Keeping) (client : Client) (core : Core) (log : Log) : Type 0 where

@@ -8,7 +8,7 @@ use Rattle.indexing_run.specs.Places.{Indexer}
 use Rattle.root_search.specs.Steps.{Client}
 use Rattle.split_collector.specs.Outcomes.{Outcome as CollectorOutcome}
 use Rattle.upkeep_run.specs.Outcomes.{UpkeepOutcome}
-use Rattle.upkeep_run.specs.Places.{Place as Worker}
+use Rattle.upkeep_run.specs.Places.{WorkerPlace as Worker}
 use Rattle.upkeep_run.specs.declared.work.Aim.{Aim}
 use Rattle.root_search.specs.declared.outcome.SearchStep.{SearchStep}
 

@@ -32,7 +32,7 @@ use Rattle.upkeep_run.specs.Standing.{said_words as worked_words}
 use Rattle.upkeep_run.specs.declared.outcome.UpkeepOutcome.{UpkeepOutcome as Worked}
 use Rattle.upkeep_run.specs.declared.work.Aim.{Aim}
 use Rattle.upkeep_run.specs.declared.work.Aim.TheVariants.{Deleting, Merging}
-use Rattle.upkeep_run.specs.declared.work.Place.{Place as WorkerPlace}
+use Rattle.upkeep_run.specs.declared.work.WorkerPlace.{WorkerPlace as WorkerPlace}
 use Rattle.node_run.specs.declared.drive.DriveNode.{DriveNode}
 use Rattle.node_run.specs.Lines.{outcome_text, worker_word}
 use Rattle.node_run.specs.Node.{Line, At, Assign, StepIndexer, RestartIndexer, RestartClient, StepMerger, RestartMerger, StepDeleter, RestartDeleter, StepCollector, RestartCollector, RestartNode, Open, StepClient, at_said, assigned, indexer_busy, indexer_down, indexer_restarted, client_restarted, worker_down, worker_restarted, collector_down, collector_restarted, node_restarted, request_opened, request_busy, client_said, client_down}

@@ -12,11 +12,11 @@ use Rattle.indexing_run.specs.declared.indexer.Indexer.{Indexer as Reader}
 use Rattle.root_search.specs.Steps.{Client}
 use Rattle.root_search.specs.Searching.{SearcherStands}
 use Rattle.root_search.specs.declared.searcher.Searcher.{Searcher}
-use Rattle.upkeep_run.specs.Places.{Place as Worker}
+use Rattle.upkeep_run.specs.Places.{WorkerPlace as Worker}
 use Rattle.upkeep_run.specs.Places as workers
 use Rattle.upkeep_run.specs.Standing.{PlaceStands}
 use Rattle.upkeep_run.specs.declared.work.Aim.TheVariants.{Deleting, Merging}
-use Rattle.upkeep_run.specs.declared.work.Place.{Place as WorkerPlace}
+use Rattle.upkeep_run.specs.declared.work.WorkerPlace.{WorkerPlace as WorkerPlace}
 use Rattle.node_run.specs.declared.drive.Accepts.{Accepts}
 use Rattle.node_run.specs.declared.drive.Accepts.TheVariants as accepts
 use Rattle.node_run.specs.declared.drive.DriveNode.{DriveNode}

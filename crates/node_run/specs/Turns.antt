@@ -6,7 +6,7 @@ use Rattle.source_log.specs.Log.{Log}
 use Rattle.index_world.specs.Calls.{Fate, calm_fate, faulted, no_memory, Unread, not_read, Gives, loaded}
 use Rattle.index_world.specs.Calls as calls
 use Rattle.index_world.specs.Core.{Core, File, Late}
-use Rattle.indexing_run.specs.Places.{Place, idle, reading, staged, uploaded, Indexer}
+use Rattle.indexing_run.specs.Places.{IndexerPlace, idle, reading, staged, uploaded, Indexer}
 use Rattle.indexing_run.specs.Outcomes.{IndexerOutcome}
 use Rattle.indexing_run.specs.Steps as indexing
 use Rattle.root_search.specs.Steps.{Request, no_request, opened, planned, Client, without_request}
@@ -15,7 +15,7 @@ use Rattle.root_search.specs.declared.outcome.SearchStep.{SearchStep}
 use Rattle.split_collector.specs.Outcomes.{Outcome as CollectorOutcome}
 use Rattle.split_collector.specs.Steps as collecting
 use Rattle.upkeep_run.specs.Outcomes.{UpkeepOutcome}
-use Rattle.upkeep_run.specs.Places.{Place as Worker}
+use Rattle.upkeep_run.specs.Places.{WorkerPlace as Worker}
 use Rattle.upkeep_run.specs.Places as workers
 use Rattle.upkeep_run.specs.Steps as working
 use Rattle.upkeep_run.specs.declared.work.Aim.{Aim}
@@ -81,7 +81,7 @@ keep_client client node = record node { clients = with_client client node.client
 abbrev pub made_idle : Indexer → Indexer
 made_idle indexer = record indexer { place = idle }
 
-abbrev pub assign_at : Place → ℕ → List (List ℕ) → Indexer → Node → Turned
+abbrev pub assign_at : IndexerPlace → ℕ → List (List ℕ) → Indexer → Node → Turned
 assign_at idle i names indexer node =
     turned (assigned i (length names)) (with_indexer i (record indexer { assignment = Some names }) node)
 assign_at (reading batch) i names indexer node = turned (indexer_busy i) node

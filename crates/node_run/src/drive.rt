@@ -14,7 +14,7 @@ ghost use Rattle.root_search.specs.Searching.{SearcherStands};
 ghost use Rattle.root_search.specs.Steps.{Client as Asker, without_request};
 ghost use Rattle.split_collector.specs.Ending.{CallsTo};
 ghost use Rattle.split_collector.specs.Turns.{ended, to_mark};
-ghost use Rattle.upkeep_run.specs.Places.{Place as Worker};
+ghost use Rattle.upkeep_run.specs.Places.{WorkerPlace as Worker};
 ghost use Rattle.upkeep_run.specs.Standing.{PlaceStands};
 ghost use Rattle.upkeep_run.specs.declared.work.Aim.TheVariants.{Deleting, Merging};
 ghost use Rattle.node_run.specs.Alone.{CollectsAlone, SearchesAlone, StepsAlone, WorksAlone};

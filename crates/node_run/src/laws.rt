@@ -12,7 +12,7 @@ ghost use Rattle.root_search.specs.Steps.{Client, step_client};
 ghost use Rattle.root_search.specs.Steps as searching;
 ghost use Rattle.split_collector.specs.Steps.{step_collector};
 ghost use Rattle.split_collector.specs.Steps as collecting;
-ghost use Rattle.upkeep_run.specs.Places.{Place as Worker};
+ghost use Rattle.upkeep_run.specs.Places.{WorkerPlace as Worker};
 ghost use Rattle.upkeep_run.specs.Steps.{step_worker};
 ghost use Rattle.upkeep_run.specs.Steps as working;
 ghost use Rattle.upkeep_run.specs.declared.work.Aim.{Aim};

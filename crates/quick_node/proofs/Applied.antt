@@ -22,7 +22,7 @@ use Rattle.index_world.specs.Index.{HasStaged}
 use Rattle.index_world.proofs.Replaced.{opstamps_on}
 use Rattle.upkeep_run.specs.Outcomes.{UpkeepOutcome}
 use Rattle.upkeep_run.specs.Outcomes as said
-use Rattle.upkeep_run.specs.Places.{Held, Place, Work, fetching, held_facts, held_file, idle, row_numbers, staged, uploaded}
+use Rattle.upkeep_run.specs.Places.{WorkerHeld, WorkerPlace, Work, fetching, held_facts, held_file, idle, row_numbers, staged, uploaded}
 use Rattle.upkeep_run.specs.Steps.{WorkerLuck, Stepped, drops_none, fetch_by, first_number, grace_in, held_of, or_short, plan_by, plan_with, raise_by, replace_by, rows_in, stage_by, step_place, step_raise, step_stage, step_work, step_worker, trouble_outcome, upload_by, work_in}
 use Rattle.upkeep_run.specs.declared.work.Aim.TheVariants.{Merging, Deleting}
 use Rattle.node_run.specs.Node.{Node, Line, Outcome, worker_said, worker_restarted, node_restarted, node_failed}
@@ -65,7 +65,7 @@ record HoldsWork (entries : List Entry) (at : Progress) (held : Work) : Type 0 w
   plan : IsPlanOf entries work held
   is : IsFetched at work held
 
-record HoldsRow (entries : List Entry) (at : Progress) (held : Held) (made : Applying → Progress) : Type 0 where
+record HoldsRow (entries : List Entry) (at : Progress) (held : WorkerHeld) (made : Applying → Progress) : Type 0 where
   work : Applying
   is : at ≡ made work
   old : held.old ≡ work.row ∷ []
@@ -73,7 +73,7 @@ record HoldsRow (entries : List Entry) (at : Progress) (held : Held) (made : App
   known : work.upto ≤ last_opstamp (history entries)
   staged : HasStaged entries held.number [] (held_facts held)
 
-abbrev Holds : List Entry → Progress → Place → Type 0
+abbrev Holds : List Entry → Progress → WorkerPlace → Type 0
 Holds entries at idle = at ≡ doing.idle
 Holds entries at (fetching held) = HoldsWork entries at held
 Holds entries at (staged held) = HoldsRow entries at held (λ work. doing.staged work held.number)
@@ -84,7 +84,7 @@ Holds entries at (uploaded held) = HoldsRow entries at held (λ work. doing.uplo
 known_on : (es more : List Entry) (upto : ℕ) → Legal reads (history (es ++ more)) → upto ≤ last_opstamp (history es) → upto ≤ last_opstamp (history (es ++ more))
 known_on es more upto legal known = let on = opstamps_on es more legal in omega (arith, on, known)
 
-row_on : (es more : List Entry) (at : Progress) (held : Held) (made : Applying → Progress) → Legal reads (history (es ++ more)) → HoldsRow es at held made → HoldsRow (es ++ more) at held made
+row_on : (es more : List Entry) (at : Progress) (held : WorkerHeld) (made : Applying → Progress) → Legal reads (history (es ++ more)) → HoldsRow es at held made → HoldsRow (es ++ more) at held made
 row_on es more at held made legal h = record {
   work = h.work;
   is = h.is;
@@ -97,7 +97,7 @@ row_on es more at held made legal h = record {
 plan_on : (es more : List Entry) (work : Applying) (held : Work) → Legal reads (history (es ++ more)) → IsPlanOf es work held → IsPlanOf (es ++ more) work held
 plan_on es more work held legal h = record { row = h.row; rows = h.rows; number = h.number; upto = h.upto; known = known_on es more work.upto legal h.known }
 
-holds_on : (es more : List Entry) (at : Progress) (place : Place) → Legal reads (history (es ++ more)) → Holds es at place → Holds (es ++ more) at place
+holds_on : (es more : List Entry) (at : Progress) (place : WorkerPlace) → Legal reads (history (es ++ more)) → Holds es at place → Holds (es ++ more) at place
 holds_on es more at idle legal h = h
 holds_on es more at (fetching held) legal h = record { work = h.work; plan = plan_on es more h.work held legal h.plan; is = h.is }
 holds_on es more at (staged held) legal h = row_on es more at held (λ work. doing.staged work held.number) legal h
@@ -153,7 +153,7 @@ module _ (entries exit : List Entry) (p : IsPrefixOf entries exit) (least lower 
 -- ---- a step
 
 -- by its outcome: what it says, and what it holds then
-record Did (start : Core) (at : Progress) (outcome : UpkeepOutcome) (place : Place) (core : Core) : Type 0 where
+record Did (start : Core) (at : Progress) (outcome : UpkeepOutcome) (place : WorkerPlace) (core : Core) : Type 0 where
   after : Progress
   applied : Applied core.history (length start.history) (length core.history) at after outcome
   settled : Settled core.history (length start.history) (length core.history) outcome
@@ -172,7 +172,7 @@ one_some : (n : ℕ) → (n ∷ []) ≢ []
 one_some n e = cc
 
 module _ (start : Core) (at : Progress) where
-  said_is : (outcome : UpkeepOutcome) (place : Place) (core : Core) → Did start at outcome place core → (o : UpkeepOutcome) → Some outcome ≡ Some o → Did start at o place core
+  said_is : (outcome : UpkeepOutcome) (place : WorkerPlace) (core : Core) → Did start at outcome place core → (o : UpkeepOutcome) → Some outcome ≡ Some o → Did start at o place core
   said_is outcome place core d o e = subst (λ (x : UpkeepOutcome). Did start at x place core) (outcome_same outcome o e) d
 
   trouble_did : (trouble : Trouble) (core : Core) (o : UpkeepOutcome) → trouble_outcome trouble ≡ Some o → Did start at o idle core
@@ -287,7 +287,7 @@ module _ (start : Core) (at : Progress) where
 
     -- ---- its file is made
 
-    upload_did : (r : Result ⊤ Trouble) (held : Held) → HoldsRow core.history at held (λ work. doing.staged work held.number) → DidStep start at (upload_by r held core)
+    upload_did : (r : Result ⊤ Trouble) (held : WorkerHeld) → HoldsRow core.history at held (λ work. doing.staged work held.number) → DidStep start at (upload_by r held core)
     upload_did (Ok done) held h o e =
         said_is (said.Uploaded held.number) (uploaded held) core
         (record {
@@ -300,7 +300,7 @@ module _ (start : Core) (at : Progress) where
 
     -- ---- the row is replaced
 
-    replace_did : (r : Result ⊤ Unmade) (held : Held) → HoldsRow core.history at held (λ work. doing.uploaded work held.number) → IsTimed core → Appends (λ c. Replace held.number held.old held.upto) start r core →
+    replace_did : (r : Result ⊤ Unmade) (held : WorkerHeld) → HoldsRow core.history at held (λ work. doing.uploaded work held.number) → IsTimed core → Appends (λ c. Replace held.number held.old held.upto) start r core →
         DidStep start at (replace_by r held.number core)
     replace_did (Ok done) held h t a o e =
         let new = made_stands (λ c. Replace held.number held.old held.upto) start core a in
@@ -347,7 +347,7 @@ module _ (luck : WorkerLuck) (log : Log) (start : Core) (at : Progress) (t : IsT
   more : (core : Core) → Grows start core → 0 < length core.history
   more core g = let l = up core g in omega (arith, l, some)
 
-  carried : (core : Core) (place : Place) → Legal reads (history core.history) → Grows start core → Holds start.history at place → Holds core.history at place
+  carried : (core : Core) (place : WorkerPlace) → Legal reads (history core.history) → Grows start core → Holds start.history at place → Holds core.history at place
   carried core place legal g h =
       subst (λ (es : List Entry). Holds es at place) (sym g.1) (holds_on start.history g.0 at place (subst (λ (es : List Entry). Legal reads (history es)) g.1 legal) h)
 
@@ -395,7 +395,7 @@ module _ (luck : WorkerLuck) (log : Log) (start : Core) (at : Progress) (t : IsT
     work_did (row ∷ rest) left (inl h) = fetching_did row rest h.1 (sym left ∙ h.0 ∙ plan.rows)
     work_did (row ∷ rest) left (inr h) = absurd (none_first row rest (sym h.0 ∙ left))
 
-  place_did : (place : Place) → Holds start.history at place → DidAll (step_place Deleting place luck log start)
+  place_did : (place : WorkerPlace) → Holds start.history at place → DidAll (step_place Deleting place luck log start)
   place_did idle h legal g =
       let given = asked_and_looked luck.world start in
       let same = planned_same Deleting given.answer log given.core in
@@ -420,7 +420,7 @@ module _ (luck : WorkerLuck) (log : Log) (start : Core) (at : Progress) (t : IsT
   short_did true step d = λ legal g o e. absurd (none_some o e)
   short_did false step d = d
 
-  step_did : (place : Place) → Holds start.history at place → DidAll (step_worker Deleting luck log place start)
+  step_did : (place : WorkerPlace) → Holds start.history at place → DidAll (step_worker Deleting luck log place start)
   step_did place h = short_did luck.short (step_place Deleting place luck log start) (place_did place h)
 
 -- ---- a line
@@ -478,7 +478,7 @@ module _ (node : Node) (line : Line) (outcome : Outcome) (last : Node) (at : Pro
           (subst (λ (c : Core). Grows node.core c) (sym s.core) grows) s.said s.answers
 
       k : Did node.core at s.said last.deleter last.core
-      k = subst (λ (c : Core). Did node.core at s.said last.deleter c) s.core (subst (λ (place : Place). Did node.core at s.said place step.core) s.place d)
+      k = subst (λ (c : Core). Did node.core at s.said last.deleter c) s.core (subst (λ (place : WorkerPlace). Did node.core at s.said place step.core) s.place d)
 
   line_did : WorkerLine Deleting node line outcome last → LineDid node.core at line outcome last
   line_did (inl l) = record {

@@ -26,7 +26,7 @@ use Rattle.index_world.specs.Gate.{stage_call, publish_call}
 use Rattle.index_world.specs.SplitFile.{file_of}
 use Rattle.index_world.proofs.StoreChanges.{All-snoc}
 use Rattle.indexing_run.specs.Outcomes.{IndexerOutcome, Checkpoint, Read, Staged, Uploaded, Published, CaughtUp, Stale, Lost, Refused, SourceFault, Faulted}
-use Rattle.indexing_run.specs.Places.{Batch, Held, Place, idle, reading, staged, uploaded, Indexer}
+use Rattle.indexing_run.specs.Places.{Batch, IndexerHeld, IndexerPlace, idle, reading, staged, uploaded, Indexer}
 use Rattle.indexing_run.specs.Steps.{Stepped, Taken, with_record, taken_from, start_of, read_limit, batch_after, queue_after, is_empty, marks_at, fresh_batch, partitions_for, log_may_fail, log_called, checkpoints_by, take_checkpoints, idle_by, idle_unless, read_by, read_given, step_read, stage_by, step_stage, batch_facts, upload_by, publish_by, publish_refused, step_place, step_indexer}
 use Rattle.indexing_run.specs.Steps as indexing
 use Rattle.indexing_run.proofs.Reading.{target_ranges}
@@ -57,7 +57,7 @@ pub record Watched (log : Log) (marks : List Mark) (batch : Batch) : Type 0 wher
   pub closed_if : batch.closed ≡ true → batch.count ≡ 0 → batch.queue ≡ []
   pub target : 0 < batch.config.docs_target
 
-abbrev pub PlaceWatched : Log → List Mark → Place → Type 0
+abbrev pub PlaceWatched : Log → List Mark → IndexerPlace → Type 0
 PlaceWatched log marks idle = Unit {0}
 PlaceWatched log marks (reading batch) = Watched log marks batch
 PlaceWatched log marks (staged held) = Unit {0}
@@ -227,7 +227,7 @@ module _ (exit : List Entry) (log : Log) (seen : Seen) where
       by (suc n) f = omega arith
 
   -- what a step of the indexer says and leaves
-  record Did (o : IndexerOutcome) (place : Place) (assignment : Option (List (List ℕ))) (core : Core) : Type 0 where
+  record Did (o : IndexerOutcome) (place : IndexerPlace) (assignment : Option (List (List ℕ))) (core : Core) : Type 0 where
     says : SaidAtEnds exit log seen o
     place_is : PlaceWatched log (marks_of (after_said log (length core.history) seen o)) place
     assignment_is : assignment ≡ seen.assignment
@@ -235,11 +235,11 @@ module _ (exit : List Entry) (log : Log) (seen : Seen) where
   abbrev Steps : Stepped → Type 0
   Steps step = (o : IndexerOutcome) → step.outcome ≡ Some o → IsPrefixOf step.core.history exit → Did o step.indexer.place step.indexer.assignment step.core
 
-  said : (o : IndexerOutcome) (place : Place) (indexer : Indexer) (core : Core) → (IsPrefixOf core.history exit → Did o place indexer.assignment core) →
+  said : (o : IndexerOutcome) (place : IndexerPlace) (indexer : Indexer) (core : Core) → (IsPrefixOf core.history exit → Did o place indexer.assignment core) →
       Steps (indexing.stepped (Some o) place indexer core)
   said o place indexer core d o' e p = subst (λ x. Did x place indexer.assignment core) (some_same o o' e) (d p)
 
-  unsaid : (place : Place) (indexer : Indexer) (core : Core) → Steps (indexing.stepped None place indexer core)
+  unsaid : (place : IndexerPlace) (indexer : Indexer) (core : Core) → Steps (indexing.stepped None place indexer core)
   unsaid place indexer core o e p = absurd (none_some o e)
 
   front_taken : (h : List Entry) → IsPrefixOf h exit → take (length h) exit ≡ h
@@ -326,7 +326,7 @@ module _ (exit : List Entry) (log : Log) (seen : Seen) where
     stage_steps (Err (refused refusal)) batch indexer c not same = said (Refused refusal) idle indexer c (λ p. record { says = not; place_is = tt; assignment_is = same })
     stage_steps (Err (troubled trouble)) batch indexer c not same = trouble_steps trouble indexer c same
 
-    upload_steps : (r : Result ⊤ Trouble) (held : Held) (indexer : Indexer) (c : Core) → indexer.assignment ≡ seen.assignment → Steps (upload_by r held indexer c)
+    upload_steps : (r : Result ⊤ Trouble) (held : IndexerHeld) (indexer : Indexer) (c : Core) → indexer.assignment ≡ seen.assignment → Steps (upload_by r held indexer c)
     upload_steps (Ok done) held indexer c same = said _ (uploaded held) indexer c (λ p. record { says = tt; place_is = tt; assignment_is = same })
     upload_steps (Err trouble) held indexer c same = trouble_steps trouble indexer c same
 
@@ -349,7 +349,7 @@ module _ (exit : List Entry) (log : Log) (seen : Seen) where
     refused_says number (TooManyRows count) = tt
     refused_says number (TooManySpans count) = tt
 
-    publish_steps : (r : Result ⊤ Unmade) (held : Held) (indexer : Indexer) (c : Core) → indexer.assignment ≡ seen.assignment → Steps (publish_by r held indexer c)
+    publish_steps : (r : Result ⊤ Unmade) (held : IndexerHeld) (indexer : Indexer) (c : Core) → indexer.assignment ≡ seen.assignment → Steps (publish_by r held indexer c)
     publish_steps (Ok done) held indexer c same = said _ idle indexer c (λ p. record { says = tt; place_is = tt; assignment_is = same })
     publish_steps (Err (refused refusal)) held indexer c same =
         said (publish_refused held.number refusal) idle indexer c (λ p. record { says = refused_says held.number refusal; place_is = tt; assignment_is = same })
@@ -379,7 +379,7 @@ module _ (exit : List Entry) (log : Log) (seen : Seen) where
     closed_by_step true batch indexer closed w same = count_by (batch.count == 0) batch indexer refl closed w same
     closed_by_step false batch indexer closed w same = open_step batch batch.queue indexer refl closed w same
 
-    place_step : (place : Place) (indexer : Indexer) → PlaceWatched log (marks_of seen) place → indexer.assignment ≡ seen.assignment → Steps (step_place place luck log indexer core)
+    place_step : (place : IndexerPlace) (indexer : Indexer) → PlaceWatched log (marks_of seen) place → indexer.assignment ≡ seen.assignment → Steps (step_place place luck log indexer core)
     place_step idle indexer w same = unless_step luck.log.short indexer same
     place_step (reading batch) indexer w same = closed_by_step batch.closed batch indexer refl w same
     place_step (staged held) indexer w same =
@@ -546,7 +546,7 @@ module _ (exit : List Entry) (log : Log) (i : ℕ) (seen : Seen) where
           watches = subst (λ b. Watches exit log i (if b then record seen { assignment = Some names } else seen) (slice_set node.indexers j x)) (sym is) (other_watches node.indexers j x is w);
         }
 
-    assign_did : (place : Place) (j : ℕ) (names : List (List ℕ)) → TurnDid (Assign j names) (assign_at place j names (indexer_at node.indexers j) node)
+    assign_did : (place : IndexerPlace) (j : ℕ) (names : List (List ℕ)) → TurnDid (Assign j names) (assign_at place j names (indexer_at node.indexers j) node)
     assign_did idle j names = said_did (Assign j names) _ _ (λ p. assigned_did j names (j == i) refl)
     assign_did (reading batch) j names = said_did (Assign j names) _ node (λ p. record { says = tt; log_is = log_is; watches = w })
     assign_did (staged held) j names = said_did (Assign j names) _ node (λ p. record { says = tt; log_is = log_is; watches = w })

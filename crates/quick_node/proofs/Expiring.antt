@@ -31,7 +31,7 @@ use Rattle.index_world.specs.Core.{Core}
 use Rattle.index_world.specs.Gate.{task_act, task_call}
 use Rattle.index_world.specs.Seen.{visible_at}
 use Rattle.indexing_run.specs.Outcomes.{IndexerOutcome}
-use Rattle.indexing_run.specs.Places.{Place, idle, reading, staged, uploaded, Indexer}
+use Rattle.indexing_run.specs.Places.{IndexerPlace, idle, reading, staged, uploaded, Indexer}
 use Rattle.root_search.specs.Answer.{answer, matching, printed, shown}
 use Rattle.root_search.specs.Requests.{ask_of, asked_of}
 use Rattle.root_search.specs.Steps.{Request, no_request, opened, planned, Plan, Client, ClientLuck, Searched, config_at, config_in, delete_by, fault_refusal, fetch_by, fetched_each, next_step, opened_by, or_short as or_unsaid, plan_by, plan_given, refused_over, reply_with, state_refusal, step_client, step_request, trouble_replied, unless_fault, without_memory, without_request}
@@ -302,7 +302,7 @@ module _ (grace : ℕ) (node : Node) (all : AllKeep grace node.clients) (work : 
       let s = step_keeps grace (searching_luck luck) node.log client node.core (named_keeps grace name node.clients all) same in
       record { clients = with_keeps grace (step_client (searching_luck luck) node.log client node.core).client node.clients s.request all; merger = work; deleter = deletes; said = client_over name _ s.said }
 
-  assign_keeps : (place : Place) (i : ℕ) (names : List (List ℕ)) (indexer : Indexer) → LineKeeps grace (assign_at place i names indexer node)
+  assign_keeps : (place : IndexerPlace) (i : ℕ) (names : List (List ℕ)) (indexer : Indexer) → LineKeeps grace (assign_at place i names indexer node)
   assign_keeps idle i names indexer = record { clients = all; merger = work; deleter = deletes; said = tt }
   assign_keeps (reading batch) i names indexer = record { clients = all; merger = work; deleter = deletes; said = tt }
   assign_keeps (staged held) i names indexer = record { clients = all; merger = work; deleter = deletes; said = tt }

@@ -26,7 +26,7 @@ use Rattle.index_world.specs.Core.{Core, clock_of, File, Late, late_entry, late_
 use Rattle.index_world.specs.Gate.{stage_act, task_act, task_call}
 use Rattle.index_world.specs.SplitFile.{file_of}
 use Rattle.index_world.proofs.StoreKeys.{none_some}
-use Rattle.indexing_run.specs.Places.{Batch, Held, Place, idle, reading, staged, uploaded, Indexer}
+use Rattle.indexing_run.specs.Places.{Batch, IndexerHeld, IndexerPlace, idle, reading, staged, uploaded, Indexer}
 use Rattle.indexing_run.specs.Steps.{Stepped, log_may_fail, log_called, take_checkpoints, idle_by, step_read, step_stage, batch_facts, step_upload, step_publish, step_batch, step_place, step_indexer}
 use Rattle.indexing_run.specs.Steps as indexing
 use Rattle.root_search.specs.Requests.{ask_of, asked_of}
@@ -633,17 +633,17 @@ module _ (luck : indexing.IndexerLuck) (log : Log) (core : Core) where
   stage_few : (indexer : Indexer) (batch : Batch) → Takes Few core (step_stage luck batch indexer core).core
   stage_few indexer batch = same (appended_few (stage_act batch.parts (batch_facts batch)) (λ c. tt) luck.world core) (stage_same _ batch indexer _)
 
-  upload_few : (indexer : Indexer) (held : Held) → Takes Few core (step_upload luck held indexer core).core
+  upload_few : (indexer : Indexer) (held : IndexerHeld) → Takes Few core (step_upload luck held indexer core).core
   upload_few indexer held = same (file_made_few luck.world.first (split_key held.number) (file_of held.config held.documents) core) (upload_same _ held indexer _)
 
-  publish_few : (indexer : Indexer) (held : Held) → Takes Few core (step_publish luck held indexer core).core
+  publish_few : (indexer : Indexer) (held : IndexerHeld) → Takes Few core (step_publish luck held indexer core).core
   publish_few indexer held = same (appended_few (λ c. Publish held.number) (λ c. tt) luck.world core) (publish_same _ held indexer _)
 
   batch_few : (indexer : Indexer) (batch : Batch) → Takes Few core (step_batch luck log batch indexer core).core
   batch_few indexer batch =
       choice_few batch.closed _ _ (choice_few (batch.count == 0) _ _ (none Few tt (still core)) (stage_few indexer batch)) (read_few indexer batch batch.queue)
 
-  place_few : (indexer : Indexer) (place : Place) → Takes Few core (step_place place luck log indexer core).core
+  place_few : (indexer : Indexer) (place : IndexerPlace) → Takes Few core (step_place place luck log indexer core).core
   place_few indexer idle = unless_few indexer luck.log.short
   place_few indexer (reading batch) = batch_few indexer batch
   place_few indexer (staged held) = upload_few indexer held

@@ -15,7 +15,7 @@ use Rattle.index_world.specs.Core.{Core, file_at}
 use Rattle.index_world.specs.Gate.{raise_call, replace_call, stage_act, stage_call}
 use Rattle.index_world.specs.Index.{max_entries}
 use Rattle.upkeep_run.specs.Outcomes.{UpkeepOutcome}
-use Rattle.upkeep_run.specs.Places.{Held, Place, Work, fetching, held_facts, held_file, idle, staged, uploaded}
+use Rattle.upkeep_run.specs.Places.{WorkerHeld, WorkerPlace, Work, fetching, held_facts, held_file, idle, staged, uploaded}
 use Rattle.upkeep_run.specs.Steps.{WorkerLuck, Stepped, config_in, drops_none, fetch_by, first_number, grace_in, held_of, or_short as or_unsaid, plan_by, plan_with, raise_by, replace_by, rows_in, stage_by, step_close, step_place, step_raise, step_stage, step_work, step_worker, trouble_outcome, upload_by, work_in}
 use Rattle.upkeep_run.specs.declared.work.Aim.{Aim}
 use Rattle.upkeep_run.specs.declared.work.Aim.TheVariants.{Deleting, Merging}
@@ -156,7 +156,7 @@ file_timely call key bytes core = by call.short
 -- ---- a worker's step
 
 -- what is planned is fetched for this grace
-abbrev pub WorkerKeeps : ℕ → Place → Type 0
+abbrev pub WorkerKeeps : ℕ → WorkerPlace → Type 0
 WorkerKeeps grace idle = ⊤
 WorkerKeeps grace (fetching work) = work.config.deletion_grace ≡ grace
 WorkerKeeps grace (staged held) = ⊤
@@ -197,7 +197,7 @@ module _ (grace : ℕ) where
   fetch_keeps (Ok done) work number more core k h = record { place = k; said = tt }
   fetch_keeps (Err trouble) work number more core k h = record { place = tt; said = late_over work trouble k h }
 
-  stage_keeps : (r : Result ⊤ Unmade) (held : ℕ → Held) (core : Core) → IfErr MadeOnTime r → StepOnTime grace (stage_by r held core)
+  stage_keeps : (r : Result ⊤ Unmade) (held : ℕ → WorkerHeld) (core : Core) → IfErr MadeOnTime r → StepOnTime grace (stage_by r held core)
   stage_keeps (Ok done) held core h = record { place = tt; said = tt }
   stage_keeps (Err (refused refusal)) held core h = record { place = tt; said = tt }
   stage_keeps (Err (troubled trouble)) held core h = record { place = tt; said = trouble_over trouble h }
@@ -207,7 +207,7 @@ module _ (grace : ℕ) where
   raise_keeps (Err (refused refusal)) number core h = record { place = tt; said = tt }
   raise_keeps (Err (troubled trouble)) number core h = record { place = tt; said = trouble_over trouble h }
 
-  upload_keeps : (r : Result ⊤ Trouble) (held : Held) (core : Core) → IfErr IsOnTime r → StepOnTime grace (upload_by r held core)
+  upload_keeps : (r : Result ⊤ Trouble) (held : WorkerHeld) (core : Core) → IfErr IsOnTime r → StepOnTime grace (upload_by r held core)
   upload_keeps (Ok done) held core h = record { place = tt; said = tt }
   upload_keeps (Err trouble) held core h = record { place = tt; said = trouble_over trouble h }
 
@@ -217,7 +217,7 @@ module _ (grace : ℕ) where
   replace_keeps (Err (troubled trouble)) number core h = record { place = tt; said = trouble_over trouble h }
 
   module _ (luck : WorkerLuck) (log : Log) (core : Core) where
-    staging_keeps : (held : ℕ → Held) → StepOnTime grace (step_stage luck held core)
+    staging_keeps : (held : ℕ → WorkerHeld) → StepOnTime grace (step_stage luck held core)
     staging_keeps held = let given = stage_call [] (held_facts (held 0)) luck.world core in stage_keeps given.answer held given.core (appended_timely (stage_act [] (held_facts (held 0))) luck.world core)
 
     raising_keeps : (number upto : ℕ) → StepOnTime grace (step_raise luck number upto core)
@@ -237,7 +237,7 @@ module _ (grace : ℕ) where
     work_keeps aim work [] k = close_keeps aim work
     work_keeps aim work (row ∷ more) k = let given = fetched (grace_in work) luck.world core in fetch_keeps given.answer work row.number more given.core k (fetched_late (grace_in work) luck.world core)
 
-    place_keeps : (aim : Aim) (place : Place) → WorkerKeeps grace place → (config_in (step_place aim place luck log core).core).deletion_grace ≡ grace → StepOnTime grace (step_place aim place luck log core)
+    place_keeps : (aim : Aim) (place : WorkerPlace) → WorkerKeeps grace place → (config_in (step_place aim place luck log core).core).deletion_grace ≡ grace → StepOnTime grace (step_place aim place luck log core)
     place_keeps aim idle k same =
         let given = asked_and_looked luck.world core in
         plan_keeps aim given.answer log given.core (asked_and_looked_own luck.world core) (subst (λ (c : Core). (config_in c).deletion_grace ≡ grace) (planned_same aim given.answer log given.core) same)
@@ -255,7 +255,7 @@ module _ (grace : ℕ) where
     short_core true step = refl
     short_core false step = refl
 
-    pub worker_keeps : (aim : Aim) (place : Place) → WorkerKeeps grace place → (config_in (step_worker aim luck log place core).core).deletion_grace ≡ grace → StepOnTime grace (step_worker aim luck log place core)
+    pub worker_keeps : (aim : Aim) (place : WorkerPlace) → WorkerKeeps grace place → (config_in (step_worker aim luck log place core).core).deletion_grace ≡ grace → StepOnTime grace (step_worker aim luck log place core)
     worker_keeps aim place k same =
         let step = step_place aim place luck log core in
         short_keeps luck.short step (place_keeps aim place k (subst (λ (c : Core). (config_in c).deletion_grace ≡ grace) (short_core luck.short step) same))

@@ -10,7 +10,7 @@ use Rattle.index_world.specs.Calls as calls
 use Rattle.index_world.specs.Config.{reads}
 use Rattle.index_world.specs.Core.{Core}
 use Rattle.indexing_run.specs.Outcomes.{IndexerOutcome}
-use Rattle.indexing_run.specs.Places.{Place, idle, reading, staged, uploaded, Indexer}
+use Rattle.indexing_run.specs.Places.{IndexerPlace, idle, reading, staged, uploaded, Indexer}
 use Rattle.root_search.specs.Steps.{Request, no_request, opened, planned, Client}
 use Rattle.root_search.specs.declared.outcome.SearchStep.{SearchStep}
 use Rattle.split_collector.specs.Outcomes.{Outcome as CollectorOutcome}
@@ -56,7 +56,7 @@ module _ (start after : Core) where
   collector_says None d = tt
   collector_says (Some outcome) d = d
 
-  assign_says : (place : Place) (i : ℕ) (names : List (List ℕ)) (indexer : Indexer) (node : Node) → DidSay start after (assign_at place i names indexer node).said
+  assign_says : (place : IndexerPlace) (i : ℕ) (names : List (List ℕ)) (indexer : Indexer) (node : Node) → DidSay start after (assign_at place i names indexer node).said
   assign_says idle i names indexer node = tt
   assign_says (reading batch) i names indexer node = tt
   assign_says (staged held) i names indexer node = tt

@@ -17,7 +17,7 @@ use Rattle.index_world.specs.Gate.{stage_act, task_act, task_call}
 use Rattle.index_world.specs.Seen.{visible_at}
 use Rattle.index_world.specs.SplitFile.{file_of}
 use Rattle.indexing_run.specs.Outcomes.{IndexerOutcome}
-use Rattle.indexing_run.specs.Places.{Batch, Held, Place, idle, reading, staged, uploaded, Indexer}
+use Rattle.indexing_run.specs.Places.{Batch, IndexerHeld, IndexerPlace, idle, reading, staged, uploaded, Indexer}
 use Rattle.indexing_run.specs.Steps.{Stepped, log_may_fail, log_called, checkpoints_by, take_checkpoints, idle_by, read_by, read_given, step_read, stage_by, step_stage, batch_facts, upload_by, publish_by, publish_refused, step_batch, step_place, step_indexer}
 use Rattle.indexing_run.specs.Steps as indexing
 use Rattle.agg_nested.specs.Answers.{all_buckets, nested_answer, told}
@@ -144,12 +144,12 @@ module _ (luck : indexing.IndexerLuck) (log : Log) (core : Core) (bound : core.s
   stage_by_said batch indexer (Err (troubled trouble)) c g =
       as_said unmade_told core.store_faults (gives {A = ⊤} (Err (troubled trouble)) c) _ c g (trouble_said trouble) refl
 
-  upload_by_said : (held : Held) (indexer : Indexer) (r : Result ⊤ Trouble) (c : Core) → Good trouble_told core.store_faults (gives r c) → Stepping core.store_faults (upload_by r held indexer c)
+  upload_by_said : (held : IndexerHeld) (indexer : Indexer) (r : Result ⊤ Trouble) (c : Core) → Good trouble_told core.store_faults (gives r c) → Stepping core.store_faults (upload_by r held indexer c)
   upload_by_said held indexer (Ok done) c g = record { says = g.on; on = g.on; bound = g.bound }
   upload_by_said held indexer (Err trouble) c g =
       as_said trouble_told core.store_faults (gives {A = ⊤} (Err trouble) c) _ c g (trouble_said trouble) refl
 
-  publish_by_said : (held : Held) (indexer : Indexer) (r : Result ⊤ Unmade) (c : Core) → Good unmade_told core.store_faults (gives r c) → Stepping core.store_faults (publish_by r held indexer c)
+  publish_by_said : (held : IndexerHeld) (indexer : Indexer) (r : Result ⊤ Unmade) (c : Core) → Good unmade_told core.store_faults (gives r c) → Stepping core.store_faults (publish_by r held indexer c)
   publish_by_said held indexer (Ok done) c g = record { says = g.on; on = g.on; bound = g.bound }
   publish_by_said held indexer (Err (refused refusal)) c g =
       as_said unmade_told core.store_faults (gives {A = ⊤} (Err (refused refusal)) c) _ c g (publish_none held.number refusal) refl
@@ -170,7 +170,7 @@ module _ (luck : indexing.IndexerLuck) (log : Log) (core : Core) (bound : core.s
   batch_said batch indexer =
       choice_said batch.closed _ _ (choice_said (batch.count == 0) _ _ (still core bound) (stage_said batch indexer)) (read_said batch batch.queue indexer)
 
-  place_said : (place : Place) (indexer : Indexer) → Stepping core.store_faults (step_place place luck log indexer core)
+  place_said : (place : IndexerPlace) (indexer : Indexer) → Stepping core.store_faults (step_place place luck log indexer core)
   place_said idle indexer = unless_said luck.log.short indexer
   place_said (reading batch) indexer = batch_said batch indexer
   place_said (staged held) indexer =
@@ -322,7 +322,7 @@ restart_said low (Err (not_read no_memory)) core node g = record { says = g.on; 
 restart_said low (Err calls.no_index) core node g = record { says = g.on; on = g.on; bound = g.bound }
 
 module _ (luck : LineLuck) (node : Node) (bound : node.core.store_faults ≤ last_count) where
-  assign_said : (place : Place) (i : ℕ) (names : List (List ℕ)) (indexer : Indexer) → Turning node.core.store_faults (assign_at place i names indexer node)
+  assign_said : (place : IndexerPlace) (i : ℕ) (names : List (List ℕ)) (indexer : Indexer) → Turning node.core.store_faults (assign_at place i names indexer node)
   assign_said idle i names indexer = still node.core bound
   assign_said (reading batch) i names indexer = still node.core bound
   assign_said (staged held) i names indexer = still node.core bound

@@ -17,7 +17,7 @@ use Rattle.index_world.specs.Core.{Core, last_count}
 use Rattle.index_world.specs.Gate.{stage_call, publish_call}
 use Rattle.index_world.specs.SplitFile.{file_of}
 use Rattle.indexing_run.specs.Outcomes.{IndexerOutcome}
-use Rattle.indexing_run.specs.Places.{Batch, Held, Place, idle, reading, staged, uploaded, Indexer}
+use Rattle.indexing_run.specs.Places.{Batch, IndexerHeld, IndexerPlace, idle, reading, staged, uploaded, Indexer}
 use Rattle.indexing_run.specs.Steps.{LogCall, Stepped, stepped, log_may_fail, log_called, trouble_outcome, take_checkpoints, checkpoints_by, idle_by, read_by, read_given, step_read, stage_by, batch_facts, upload_by, publish_refused, publish_by, step_batch, step_place, step_indexer}
 use Rattle.indexing_run.specs.Steps as indexing
 use Rattle.root_search.specs.Steps.{Request, no_request, opened, planned, Client}
@@ -64,7 +64,7 @@ Steps low step = Tells low (by_indexer step.outcome) step.indexer.log_faults
 
 module _ (luck : indexing.IndexerLuck) (log : Log) (low : ℕ) where
   -- what trouble says is of no log
-  trouble_tells : (trouble : Trouble) (place : Place) (indexer : Indexer) (core : Core) → Tells low [] indexer.log_faults → Steps low (stepped (trouble_outcome trouble) place indexer core)
+  trouble_tells : (trouble : Trouble) (place : IndexerPlace) (indexer : Indexer) (core : Core) → Tells low [] indexer.log_faults → Steps low (stepped (trouble_outcome trouble) place indexer core)
   trouble_tells (faulted fault) place indexer core t = record { says = t.says; bound = t.bound }
   trouble_tells no_memory place indexer core t = record { says = t.says; bound = t.bound }
 
@@ -80,7 +80,7 @@ module _ (luck : indexing.IndexerLuck) (log : Log) (low : ℕ) where
   stage_tells (Err (refused refusal)) batch indexer core t = record { says = t.says; bound = t.bound }
   stage_tells (Err (troubled trouble)) batch indexer core t = trouble_tells trouble idle indexer core t
 
-  upload_tells : (r : Result ⊤ Trouble) (held : Held) (indexer : Indexer) (core : Core) → Tells low [] indexer.log_faults → Steps low (upload_by r held indexer core)
+  upload_tells : (r : Result ⊤ Trouble) (held : IndexerHeld) (indexer : Indexer) (core : Core) → Tells low [] indexer.log_faults → Steps low (upload_by r held indexer core)
   upload_tells (Ok done) held indexer core t = record { says = t.says; bound = t.bound }
   upload_tells (Err trouble) held indexer core t = trouble_tells trouble idle indexer core t
 
@@ -103,7 +103,7 @@ module _ (luck : indexing.IndexerLuck) (log : Log) (low : ℕ) where
   refused_quiet number (TooManyRows count) = refl
   refused_quiet number (TooManySpans count) = refl
 
-  publish_tells : (r : Result ⊤ Unmade) (held : Held) (indexer : Indexer) (core : Core) → Tells low [] indexer.log_faults → Steps low (publish_by r held indexer core)
+  publish_tells : (r : Result ⊤ Unmade) (held : IndexerHeld) (indexer : Indexer) (core : Core) → Tells low [] indexer.log_faults → Steps low (publish_by r held indexer core)
   publish_tells (Ok done) held indexer core t = record { says = t.says; bound = t.bound }
   publish_tells (Err (refused refusal)) held indexer core t =
       subst (λ told. Tells low told indexer.log_faults) (sym (refused_quiet held.number refusal)) t
@@ -156,7 +156,7 @@ module _ (luck : indexing.IndexerLuck) (log : Log) (indexer : Indexer) (bound : 
   unless_tells true core = let f = called in record { says = f.says; bound = f.bound }
   unless_tells false core = idle_tells (log_may_fail luck.log count) indexer.assignment core refl
 
-  place_tells : (place : Place) (core : Core) → Steps count (step_place place luck log indexer core)
+  place_tells : (place : IndexerPlace) (core : Core) → Steps count (step_place place luck log indexer core)
   place_tells idle core = unless_tells luck.log.short core
   place_tells (reading batch) core = batch_tells batch core
   place_tells (staged held) core =
@@ -242,7 +242,7 @@ module _ (i : ℕ) (node : Node) (within : i < length node.indexers) (bound : co
       ap (λ k. count_at (slice_set node.indexers k indexer) i) at ∙ set_here node.indexers i indexer within ∙ same ∙ ap (count_at node.indexers) at
   set_counts j false indexer e same = set_other node.indexers i j indexer (eqb-false j i e)
 
-  assign_turn : (place : Place) (j : ℕ) (names : List (List ℕ)) → Turns_ (assign_at place j names (indexer_at node.indexers j) node)
+  assign_turn : (place : IndexerPlace) (j : ℕ) (names : List (List ℕ)) → Turns_ (assign_at place j names (indexer_at node.indexers j) node)
   assign_turn idle j names =
       quiet_turn _ refl (set_counts j (j == i) (record (indexer_at node.indexers j) { assignment = Some names }) refl refl) (set_long node.indexers j _)
   assign_turn (reading batch) j names = quiet_turn _ refl refl refl

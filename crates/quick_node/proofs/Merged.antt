@@ -20,7 +20,7 @@ use Rattle.index_world.specs.Gate.{replace_call, stage_act, stage_call}
 use Rattle.index_world.specs.Index.{HasStaged}
 use Rattle.upkeep_run.specs.Outcomes.{UpkeepOutcome}
 use Rattle.upkeep_run.specs.Outcomes as said
-use Rattle.upkeep_run.specs.Places.{Held, Place, Work, fetching, held_facts, held_file, idle, row_numbers, staged, uploaded}
+use Rattle.upkeep_run.specs.Places.{WorkerHeld, WorkerPlace, Work, fetching, held_facts, held_file, idle, row_numbers, staged, uploaded}
 use Rattle.upkeep_run.specs.Steps.{WorkerLuck, Stepped, fetch_by, grace_in, held_of, or_short, plan_by, plan_with, replace_by, rows_in, stage_by, step_place, step_work, step_worker, trouble_outcome, upload_by, work_in}
 use Rattle.upkeep_run.specs.declared.work.Aim.TheVariants.{Merging, Deleting}
 use Rattle.node_run.specs.Node.{Node, Line, Outcome, worker_said, worker_restarted, node_restarted, node_failed}
@@ -57,13 +57,13 @@ record HoldsWork (plan : List ℕ) (work : Work) : Type 0 where
   rows : row_numbers work.rows ≡ plan
   left : AreOf plan (row_numbers work.unfetched)
 
-record HoldsRow (entries : List Entry) (plan : List ℕ) (held : Held) : Type 0 where
+record HoldsRow (entries : List Entry) (plan : List ℕ) (held : WorkerHeld) : Type 0 where
   is_plan : IsPlan plan
   old : held.old ≡ plan
   upto : held.upto ≡ 0
   staged : HasStaged entries held.number [] (held_facts held)
 
-abbrev Holds : List Entry → List ℕ → Place → Type 0
+abbrev Holds : List Entry → List ℕ → WorkerPlace → Type 0
 Holds entries plan idle = ⊤
 Holds entries plan (fetching work) = HoldsWork plan work
 Holds entries plan (staged held) = HoldsRow entries plan held
@@ -80,7 +80,7 @@ all_of (n ∷ numbers) =
 
 -- ---- over a longer journal
 
-holds_on : (es more : List Entry) (plan : List ℕ) (place : Place) → Legal reads (history (es ++ more)) → Holds es plan place → Holds (es ++ more) plan place
+holds_on : (es more : List Entry) (plan : List ℕ) (place : WorkerPlace) → Legal reads (history (es ++ more)) → Holds es plan place → Holds (es ++ more) plan place
 holds_on es more plan idle legal h = tt
 holds_on es more plan (fetching work) legal h = h
 holds_on es more plan (staged held) legal h = record { is_plan = h.is_plan; old = h.old; upto = h.upto; staged = staged_on es more held.number (held_facts held) legal h.staged }
@@ -118,7 +118,7 @@ module _ (entries exit : List Entry) (p : IsPrefixOf entries exit) (clock least 
 -- ---- a step
 
 -- by its outcome: what it says, and what it holds then
-record Did (start : Core) (clock : ℕ) (plan : List ℕ) (outcome : UpkeepOutcome) (place : Place) (core : Core) : Type 0 where
+record Did (start : Core) (clock : ℕ) (plan : List ℕ) (outcome : UpkeepOutcome) (place : WorkerPlace) (core : Core) : Type 0 where
   planned : List ℕ
   merged : Merged core.history clock (length start.history) (length core.history) plan planned outcome
   rested : Rested core.history clock (length start.history) (length core.history) outcome
@@ -134,10 +134,10 @@ outcome_same : (a b : UpkeepOutcome) → Some a ≡ Some b → a ≡ b
 outcome_same a b e = cc
 
 module _ (start : Core) (clock : ℕ) (plan : List ℕ) where
-  abbrev Says : UpkeepOutcome → Place → Core → Type 0
+  abbrev Says : UpkeepOutcome → WorkerPlace → Core → Type 0
   Says outcome place core = Did start clock plan outcome place core
 
-  said_is : (outcome : UpkeepOutcome) (place : Place) (core : Core) → Says outcome place core → (o : UpkeepOutcome) → Some outcome ≡ Some o → Says o place core
+  said_is : (outcome : UpkeepOutcome) (place : WorkerPlace) (core : Core) → Says outcome place core → (o : UpkeepOutcome) → Some outcome ≡ Some o → Says o place core
   said_is outcome place core d o e = subst (λ (x : UpkeepOutcome). Says x place core) (outcome_same outcome o e) d
 
   trouble_did : (trouble : Trouble) (core : Core) (o : UpkeepOutcome) → trouble_outcome trouble ≡ Some o → Says o idle core
@@ -218,13 +218,13 @@ module _ (start : Core) (clock : ℕ) (plan : List ℕ) where
 
     -- ---- its file is made
 
-    upload_did : (r : Result ⊤ Trouble) (held : Held) → HoldsRow core.history plan held → DidStep start clock plan (upload_by r held core)
+    upload_did : (r : Result ⊤ Trouble) (held : WorkerHeld) → HoldsRow core.history plan held → DidStep start clock plan (upload_by r held core)
     upload_did (Ok done) held h o e = said_is (said.Uploaded held.number) (uploaded held) core (record { planned = plan; merged = refl; rested = tt; holds = h }) o e
     upload_did (Err trouble) held h o e = trouble_did trouble core o e
 
     -- ---- the planned rows are replaced
 
-    replace_did : (r : Result ⊤ Unmade) (held : Held) → HoldsRow core.history plan held → IsTimed core → Appends (λ c. Replace held.number held.old held.upto) start r core → DidStep start clock plan (replace_by r held.number core)
+    replace_did : (r : Result ⊤ Unmade) (held : WorkerHeld) → HoldsRow core.history plan held → IsTimed core → Appends (λ c. Replace held.number held.old held.upto) start r core → DidStep start clock plan (replace_by r held.number core)
     replace_did (Ok done) held h t a o e =
         let at = made_stands (λ c. Replace held.number held.old held.upto) start core a in
         said_is (said.Replaced held.number) idle core
@@ -257,7 +257,7 @@ module _ (luck : WorkerLuck) (log : Log) (start : Core) (clock : ℕ) (plan : Li
   more : (core : Core) → Grows start core → 0 < length core.history
   more core g = let l = up core g in omega (arith, l, some)
 
-  carried : (core : Core) (place : Place) → Legal reads (history core.history) → Grows start core → Holds start.history plan place → Holds core.history plan place
+  carried : (core : Core) (place : WorkerPlace) → Legal reads (history core.history) → Grows start core → Holds start.history plan place → Holds core.history plan place
   carried core place legal g h =
       subst (λ (es : List Entry). Holds es plan place) (sym g.1) (holds_on start.history g.0 plan place (subst (λ (es : List Entry). Legal reads (history es)) g.1 legal) h)
 
@@ -276,7 +276,7 @@ module _ (luck : WorkerLuck) (log : Log) (start : Core) (clock : ℕ) (plan : Li
       let same = fetched_same given.answer work row.number rest given.core in
       fetch_did start clock plan given.core (up given.core (subst (Grows start) same g)) (subst (λ (c : Core). Legal reads (history c.history)) same legal) (more given.core (subst (Grows start) same g)) given.answer work row rest h is
 
-  place_did : (place : Place) → Holds start.history plan place → DidAll (step_place Merging place luck log start)
+  place_did : (place : WorkerPlace) → Holds start.history plan place → DidAll (step_place Merging place luck log start)
   place_did idle h legal g =
       let given = asked_and_looked luck.world start in
       let same = planned_same Merging given.answer log given.core in
@@ -301,7 +301,7 @@ module _ (luck : WorkerLuck) (log : Log) (start : Core) (clock : ℕ) (plan : Li
   short_did true step d = λ legal g o e. absurd (none_some o e)
   short_did false step d = d
 
-  step_did : (place : Place) → Holds start.history plan place → DidAll (step_worker Merging luck log place start)
+  step_did : (place : WorkerPlace) → Holds start.history plan place → DidAll (step_worker Merging luck log place start)
   step_did place h = short_did luck.short (step_place Merging place luck log start) (place_did place h)
 
 -- ---- a line
@@ -362,7 +362,7 @@ module _ (node : Node) (line : Line) (outcome : Outcome) (last : Node) (clock : 
           (subst (λ (c : Core). Grows node.core c) (sym s.core) grows) s.said s.answers
 
       k : Did node.core clock plan s.said last.merger last.core
-      k = subst (λ (c : Core). Did node.core clock plan s.said last.merger c) s.core (subst (λ (place : Place). Did node.core clock plan s.said place step.core) s.place d)
+      k = subst (λ (c : Core). Did node.core clock plan s.said last.merger c) s.core (subst (λ (place : WorkerPlace). Did node.core clock plan s.said place step.core) s.place d)
 
   line_did : WorkerLine Merging node line outcome last → LineDid node.core clock plan outcome last
   line_did (inl l) = record {

@@ -7,7 +7,7 @@ use Rattle.std.specs.Prelude.{Some, None, Result, Ok, Err, ⊤, ◌||◌, if◌t
 use Rattle.index_world.specs.Calls.{faulted, no_memory, Unread, not_read, loaded}
 use Rattle.index_world.specs.Calls as calls
 use Rattle.index_world.specs.Core.{Core}
-use Rattle.indexing_run.specs.Places.{Place, idle, reading, staged, uploaded}
+use Rattle.indexing_run.specs.Places.{IndexerPlace, idle, reading, staged, uploaded}
 use Rattle.root_search.specs.Steps.{Request, no_request, opened, planned, Plan, Client, step_client, without_request}
 use Rattle.upkeep_run.specs.declared.work.Aim.TheVariants.{Deleting, Merging}
 use Rattle.node_run.specs.Node.{Node, Line, At, Assign, StepIndexer, RestartIndexer, RestartClient, StepMerger, RestartMerger, StepDeleter, RestartDeleter, StepCollector, RestartCollector, RestartNode, Open, StepClient, Outcome}
@@ -112,7 +112,7 @@ module _ (names : List (List ℕ)) (node : Node) (are : AreNamed names node.clie
   without_named : AreNamed names (map without_request node.clients)
   without_named = record { same = λ q. are.same q ∙ sym (known_without q node.clients); long = are.long ∙ sym (length-map node.clients without_request) }
 
-  assign_named : (place : Place) (i : ℕ) (parts : List (List ℕ)) → AreNamed names (assign_at place i parts (indexer_at node.indexers i) node).node.clients
+  assign_named : (place : IndexerPlace) (i : ℕ) (parts : List (List ℕ)) → AreNamed names (assign_at place i parts (indexer_at node.indexers i) node).node.clients
   assign_named idle i parts = are
   assign_named (reading batch) i parts = are
   assign_named (staged held) i parts = are

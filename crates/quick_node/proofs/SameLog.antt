@@ -4,7 +4,7 @@ use Rattle.std.specs.Prelude.{Option, Some, None, Result, Ok, Err, ⊤}
 use Rattle.index_world.specs.Calls.{faulted, no_memory, Unread, not_read, loaded}
 use Rattle.index_world.specs.Calls as calls
 use Rattle.index_world.specs.Core.{Core}
-use Rattle.indexing_run.specs.Places.{Place, idle, reading, staged, uploaded, Indexer}
+use Rattle.indexing_run.specs.Places.{IndexerPlace, idle, reading, staged, uploaded, Indexer}
 use Rattle.root_search.specs.Steps.{Request, no_request, opened, planned, Client}
 use Rattle.upkeep_run.specs.declared.work.Aim.TheVariants.{Deleting, Merging}
 use Rattle.node_run.specs.Node.{Node, Line, At, Assign, StepIndexer, RestartIndexer, RestartClient, StepMerger, RestartMerger, StepDeleter, RestartDeleter, StepCollector, RestartCollector, RestartNode, Open, StepClient, Outcome}
@@ -12,7 +12,7 @@ use Rattle.node_run.specs.Turns.{LineLuck, Turned, indexer_at, assign_at, indexe
 use Rattle.quick_node.specs.Running.{StopsShort, HasRun}
 use Rattle.quick_node.specs.Serve.{End, by_reading, no_index, opening_failed, read_failed, write_failed, out_of_memory}
 
-assign_log : (place : Place) (i : ℕ) (names : List (List ℕ)) (indexer : Indexer) (node : Node) → (assign_at place i names indexer node).node.log ≡ node.log
+assign_log : (place : IndexerPlace) (i : ℕ) (names : List (List ℕ)) (indexer : Indexer) (node : Node) → (assign_at place i names indexer node).node.log ≡ node.log
 assign_log idle i names indexer node = refl
 assign_log (reading batch) i names indexer node = refl
 assign_log (staged held) i names indexer node = refl

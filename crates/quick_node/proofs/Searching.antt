@@ -21,7 +21,7 @@ use Rattle.index_world.specs.Seen.{visible, visible_at}
 use Rattle.index_world.proofs.Asking.{Begun, begun_history}
 use Rattle.index_world.proofs.Numbers.{revision_is}
 use Rattle.indexing_run.specs.Outcomes.{IndexerOutcome}
-use Rattle.indexing_run.specs.Places.{Place, idle, reading, staged, uploaded, Indexer}
+use Rattle.indexing_run.specs.Places.{IndexerPlace, idle, reading, staged, uploaded, Indexer}
 use Rattle.indexing_run.specs.Steps.{step_indexer}
 use Rattle.root_search.specs.Answer.{answer}
 use Rattle.root_search.specs.Requests.{ask_of, asked_of}
@@ -633,7 +633,7 @@ module _ (exit : List Entry) (least : ℕ) (knowns : List Known) (node : Node) (
       let step = step_collector (collecting_luck luck) node.core in
       collector_said_goes step.outcome step.core (collector_moves (collecting_luck luck) node.core).later.grows
 
-  assign_goes : (place : Place) (i : ℕ) (names : List (List ℕ)) (indexer : Indexer) → TurnGoes exit least knowns node (Assign i names) (assign_at place i names indexer node)
+  assign_goes : (place : IndexerPlace) (i : ℕ) (names : List (List ℕ)) (indexer : Indexer) → TurnGoes exit least knowns node (Assign i names) (assign_at place i names indexer node)
   assign_goes idle i names indexer = other_goes (Assign i names) _ _ refl (same_grows node.core node.core refl) refl refl tt
   assign_goes (reading batch) i names indexer = other_goes (Assign i names) _ node refl (same_grows node.core node.core refl) refl refl tt
   assign_goes (staged held) i names indexer = other_goes (Assign i names) _ node refl (same_grows node.core node.core refl) refl refl tt

@@ -9,7 +9,7 @@ use Rattle.index_world.specs.Calls.{Trouble, faulted, no_memory, Unmade, refused
 use Rattle.index_world.specs.Core.{Core, last_count}
 use Rattle.index_world.specs.Gate.{raise_call, replace_call, stage_act, stage_call}
 use Rattle.upkeep_run.specs.Outcomes.{UpkeepOutcome}
-use Rattle.upkeep_run.specs.Places.{Held, Place, Work, fetching, held_facts, held_file, idle, staged, uploaded}
+use Rattle.upkeep_run.specs.Places.{WorkerHeld, WorkerPlace, Work, fetching, held_facts, held_file, idle, staged, uploaded}
 use Rattle.upkeep_run.specs.Steps.{WorkerLuck, Stepped, drops_none, fetch_by, first_number, grace_in, held_of, lost_outcome, or_short, plan_by, plan_with, raise_by, replace_by, rows_in, stage_by, stage_outcome, step_close, step_place, step_raise, step_stage, step_work, step_worker, trouble_outcome, upload_by, work_in}
 use Rattle.upkeep_run.specs.declared.work.Aim.{Aim}
 use Rattle.upkeep_run.specs.declared.work.Aim.TheVariants.{Deleting, Merging}
@@ -59,7 +59,7 @@ module _ (low : ℕ) (core : Core) where
   fetch_said (Ok done) work number more g = done_is trouble_told g
   fetch_said (Err trouble) work number more g = as_told trouble_told trouble _ (trouble_is trouble) g
 
-  stage_said : (r : Result ⊤ Unmade) (held : ℕ → Held) → Good unmade_told low (gives r core) → Working low (stage_by r held core)
+  stage_said : (r : Result ⊤ Unmade) (held : ℕ → WorkerHeld) → Good unmade_told low (gives r core) → Working low (stage_by r held core)
   stage_said (Ok done) held g = done_is unmade_told g
   stage_said (Err unmade) held g = as_told unmade_told unmade _ (stage_is unmade) g
 
@@ -67,7 +67,7 @@ module _ (low : ℕ) (core : Core) where
   raise_said (Ok done) number g = done_is unmade_told g
   raise_said (Err unmade) number g = as_told unmade_told unmade _ (lost_is number unmade) g
 
-  upload_said : (r : Result ⊤ Trouble) (held : Held) → Good trouble_told low (gives r core) → Working low (upload_by r held core)
+  upload_said : (r : Result ⊤ Trouble) (held : WorkerHeld) → Good trouble_told low (gives r core) → Working low (upload_by r held core)
   upload_said (Ok done) held g = done_is trouble_told g
   upload_said (Err trouble) held g = as_told trouble_told trouble _ (trouble_is trouble) g
 
@@ -81,7 +81,7 @@ module _ (luck : WorkerLuck) (log : Log) (core : Core) (bound : core.store_fault
   abbrev low : ℕ
   low = core.store_faults
 
-  staging_said : (held : ℕ → Held) → Working low (step_stage luck held core)
+  staging_said : (held : ℕ → WorkerHeld) → Working low (step_stage luck held core)
   staging_said held =
       let given = stage_call [] (held_facts (held 0)) luck.world core in
       stage_said low given.core given.answer held (as_given unmade_told low given (appended_good luck.world (stage_act [] (held_facts (held 0))) core bound))
@@ -107,7 +107,7 @@ module _ (luck : WorkerLuck) (log : Log) (core : Core) (bound : core.store_fault
       let given = fetched (grace_in work) luck.world core in
       fetch_said low given.core given.answer work row.number more (as_given trouble_told low given (fetched_good (grace_in work) luck.world core bound))
 
-  place_said : (aim : Aim) (place : Place) → Working low (step_place aim place luck log core)
+  place_said : (aim : Aim) (place : WorkerPlace) → Working low (step_place aim place luck log core)
   place_said aim idle =
       let given = asked_and_looked luck.world core in
       plan_said low given.core aim given.answer log (as_given trouble_told low given (asked_and_looked_good luck.world core bound))
@@ -123,5 +123,5 @@ module _ (luck : WorkerLuck) (log : Log) (core : Core) (bound : core.store_fault
   short_said true step p = record { says = p.on; on = p.on; bound = p.bound }
   short_said false step p = p
 
-  pub worker_says : (aim : Aim) (place : Place) → Working low (step_worker aim luck log place core)
+  pub worker_says : (aim : Aim) (place : WorkerPlace) → Working low (step_worker aim luck log place core)
   worker_says aim place = short_said luck.short (step_place aim place luck log core) (place_said aim place)

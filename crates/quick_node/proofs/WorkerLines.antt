@@ -11,7 +11,7 @@ use Rattle.root_search.specs.Steps as searching
 use Rattle.root_search.specs.declared.outcome.SearchStep.{SearchStep}
 use Rattle.split_collector.specs.Outcomes.{Outcome as CollectorOutcome}
 use Rattle.upkeep_run.specs.Outcomes.{UpkeepOutcome}
-use Rattle.upkeep_run.specs.Places.{Place, idle}
+use Rattle.upkeep_run.specs.Places.{WorkerPlace, idle}
 use Rattle.upkeep_run.specs.Steps.{WorkerLuck, step_worker}
 use Rattle.upkeep_run.specs.declared.work.Aim.{Aim}
 use Rattle.upkeep_run.specs.declared.work.Aim.TheVariants.{Merging, Deleting}
@@ -20,7 +20,7 @@ use Rattle.node_run.specs.Turns.{LineLuck as LineLuck, Turn, Turned, assign_at, 
 
 -- ---- a worker, and its lines
 
-abbrev pub worker_at : Aim → Node → Place
+abbrev pub worker_at : Aim → Node → WorkerPlace
 worker_at Merging node = node.merger
 worker_at Deleting node = node.deleter
 
@@ -128,7 +128,7 @@ module _ (aim : Aim) (node : Node) (line : Line) where
       λ outcome e. inr (inr (record { line_is = line_is; said = said; is = sym (line_same (worker_said aim said) outcome e); luck = luck; answers = answers; place = place; core = core }))
 
 module _ (aim : Aim) (luck : LineLuck) (node : Node) where
-  assign_line : (line : Line) (place : indexing.Place) (i : ℕ) (names : List (List ℕ)) (indexer : indexing.Indexer) → LineIs aim node line (assign_at place i names indexer node)
+  assign_line : (line : Line) (place : indexing.IndexerPlace) (i : ℕ) (names : List (List ℕ)) (indexer : indexing.Indexer) → LineIs aim node line (assign_at place i names indexer node)
   assign_line line indexing.idle i names indexer = let turn = assign_at indexing.idle i names indexer node in leaves aim node line _ turn.node tt (same_worker aim node turn.node refl refl)
   assign_line line (indexing.reading batch) i names indexer = leaves aim node line _ node tt refl
   assign_line line (indexing.staged held) i names indexer = leaves aim node line _ node tt refl

@@ -181,7 +181,7 @@ work_short_same true step = refl
 work_short_same false step = refl
 
 module _ (luck : working.WorkerLuck) (log : Log) (core : Core) where
-  staging_works : (held : ℕ → workers.Held) → Works core (working.step_stage luck held core).core
+  staging_works : (held : ℕ → workers.WorkerHeld) → Works core (working.step_stage luck held core).core
   staging_works held = work_same (work_few (appended_few (stage_act [] (workers.held_facts (held 0))) (λ c. tt) luck.world core)) (staged_same _ held _)
 
   raising_works : (number upto : ℕ) → Works core (working.step_raise luck number upto core).core
@@ -196,11 +196,11 @@ module _ (luck : working.WorkerLuck) (log : Log) (core : Core) where
   fetching_works aim work [] = closing_works aim work
   fetching_works aim work (row ∷ more) = work_same (work_few (none Few tt (fetched_still (working.grace_in work) luck.world core))) (fetched_same _ work row.number more _)
 
-  at_works : (aim : Aim) (place : workers.Place) → Works core (working.step_place aim place luck log core).core
+  at_works : (aim : Aim) (place : workers.WorkerPlace) → Works core (working.step_place aim place luck log core).core
   at_works aim workers.idle = work_same (work_few (weaker One Few one_few (asked_and_looked_one luck.world core))) (planned_same aim _ log _)
   at_works aim (workers.fetching work) = fetching_works aim work work.unfetched
   at_works aim (workers.staged held) = work_same (work_few (file_made_few luck.world.first (split_key held.number) (workers.held_file held) core)) (uploaded_same _ held _)
   at_works aim (workers.uploaded held) = work_same (work_came (appended_came (λ c. Replace held.number held.old held.upto) luck.world core)) (replaced_same _ held.number _)
 
-  pub worker_works : (aim : Aim) (place : workers.Place) → Works core (working.step_worker aim luck log place core).core
+  pub worker_works : (aim : Aim) (place : workers.WorkerPlace) → Works core (working.step_worker aim luck log place core).core
   worker_works aim place = work_same (at_works aim place) (work_short_same luck.short _)

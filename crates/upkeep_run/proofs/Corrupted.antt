@@ -43,7 +43,7 @@ use Rattle.upkeep_run.specs.Steps.{choice_of}
 use Rattle.upkeep_run.specs.declared.outcome.UpkeepOutcome.{UpkeepOutcome as Said}
 use Rattle.upkeep_run.specs.declared.outcome.UpkeepOutcome.TheVariants as said
 use Rattle.upkeep_run.specs.declared.work.Aim.{Aim}
-use Rattle.upkeep_run.specs.declared.work.Place.{Place as HeldPlace}
+use Rattle.upkeep_run.specs.declared.work.WorkerPlace.{WorkerPlace as HeldPlace}
 use Rattle.upkeep_run.specs.declared.work.Work.{Work as HeldWork}
 use Rattle.upkeep_run.proofs.Judged.{both_true, not_both}
 

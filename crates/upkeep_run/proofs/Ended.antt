@@ -7,8 +7,8 @@ use Rattle.object_store.specs.Store.{State as Kept}
 use Rattle.std.specs.Prelude.{IsErr}
 use Rattle.upkeep_run.specs.Ending.{Ends, EndsDelete, EndsDeleteFrom, EndsFrom, EndsStep, Told}
 use Rattle.upkeep_run.specs.declared.outcome.UpkeepOutcome.{UpkeepOutcome as Said}
-use Rattle.upkeep_run.specs.declared.work.Place.{Place as HeldPlace}
-use Rattle.upkeep_run.specs.declared.work.Place.TheVariants as places
+use Rattle.upkeep_run.specs.declared.work.WorkerPlace.{WorkerPlace as HeldPlace}
+use Rattle.upkeep_run.specs.declared.work.WorkerPlace.TheVariants as places
 
 -- it ends so where each outcome that it gives does
 pub ends_by : (Says : Said → HeldPlace → Type 0) (result : Told) (place : HeldPlace) → place ≡ places.Idle → ((outcome : Said) → result ≡ Ok outcome → Says outcome place) → Ends Says result place

@@ -29,8 +29,8 @@ use Rattle.upkeep_run.specs.Standing.{Answers, PlaceStands, StepsAs, WorkStands}
 use Rattle.upkeep_run.specs.Steps.{WorkerLuck, fetch_by, fetch_given, grace_in, or_short, step_work, step_worker, trouble_outcome}
 use Rattle.upkeep_run.specs.declared.outcome.UpkeepOutcome.{UpkeepOutcome as Said}
 use Rattle.upkeep_run.specs.declared.work.Aim.{Aim}
-use Rattle.upkeep_run.specs.declared.work.Place.{Place as HeldPlace}
-use Rattle.upkeep_run.specs.declared.work.Place.TheVariants as places
+use Rattle.upkeep_run.specs.declared.work.WorkerPlace.{WorkerPlace as HeldPlace}
+use Rattle.upkeep_run.specs.declared.work.WorkerPlace.TheVariants as places
 use Rattle.upkeep_run.specs.declared.work.Work.{Work as HeldWork}
 use Rattle.upkeep_run.proofs.Holding.{sound_legal, work_stays}
 use Rattle.upkeep_run.proofs.Making.{docs_are, weight_is}

@@ -16,9 +16,9 @@ use Rattle.index_world.specs.Replacing.{IsReplaceable, WerePlanned, joined}
 use Rattle.index_world.specs.SplitFile.{file_of}
 use Rattle.index_world.specs.World.{GoesFor}
 use Rattle.upkeep_run.specs.Standing.{HoldsNone, HoldsOwn}
-use Rattle.upkeep_run.specs.declared.work.Place.{Place as HeldPlace}
-use Rattle.upkeep_run.specs.declared.work.Place.TheVariants as places
-use Rattle.upkeep_run.specs.Places.{Held, IsHeldMade, IsRowInHand, IsStagedHeld, IsUploadedHeld, IsWork, Work, held_facts, held_file, marks_of, until_of}
+use Rattle.upkeep_run.specs.declared.work.WorkerPlace.{WorkerPlace as HeldPlace}
+use Rattle.upkeep_run.specs.declared.work.WorkerPlace.TheVariants as places
+use Rattle.upkeep_run.specs.Places.{WorkerHeld, IsHeldMade, IsRowInHand, IsStagedHeld, IsUploadedHeld, IsWork, Work, held_facts, held_file, marks_of, until_of}
 use Rattle.meta_store.specs.Left.{HasMarks}
 use Rattle.std.specs.List.{AllZip}
 
@@ -53,7 +53,7 @@ module _ (core after : Core) (log : Log) (g : GoesFor Nobody core after) (legal 
         known = known_on Nobody core after g.grown.0 g.grown.1 legal g.keeps work.upto w.known;
       }
 
-  pub made_stays : (held : Held) → IsHeldMade log core held → IsHeldMade log after held
+  pub made_stays : (held : WorkerHeld) → IsHeldMade log core held → IsHeldMade log after held
   made_stays held m =
       record {
         some = m.some;
@@ -69,11 +69,11 @@ module _ (core after : Core) (log : Log) (g : GoesFor Nobody core after) (legal 
       }
 
   -- an upload that was Ok makes it uploaded
-  pub uploaded_is_held : (held : Held) → IsStagedHeld log core held → IsUploadedIn after held.number (held_file held) → IsUploadedHeld log after held
+  pub uploaded_is_held : (held : WorkerHeld) → IsStagedHeld log core held → IsUploadedIn after held.number (held_file held) → IsUploadedHeld log after held
   uploaded_is_held held s u =
       record { configured = g.keeps.configured held.config s.configured; uploaded = u; staged = g.keeps.staged held.number [] (held_facts held) s.staged; made = made_stays held s.made }
 
-  pub uploaded_stays : (held : Held) → IsUploadedHeld log core held → IsUploadedHeld log after held
+  pub uploaded_stays : (held : WorkerHeld) → IsUploadedHeld log core held → IsUploadedHeld log after held
   uploaded_stays held u =
       record {
         configured = g.keeps.configured held.config u.configured;
@@ -83,7 +83,7 @@ module _ (core after : Core) (log : Log) (g : GoesFor Nobody core after) (legal 
       }
 
 -- WHAT A REPLACE NEEDS of an uploaded replacement
-pub held_is_replaceable : (log : Log) (core : Core) (held : Held) → IsUploadedHeld log core held → IsReplaceable log core held.number held.old held.upto
+pub held_is_replaceable : (log : Log) (core : Core) (held : WorkerHeld) → IsUploadedHeld log core held → IsReplaceable log core held.number held.old held.upto
 held_is_replaceable log core held u =
     record {
       config = held.config;
@@ -101,7 +101,7 @@ held_is_replaceable log core held u =
     }
 
 -- by other words
-pub may_replace : (log : Log) (core : Core) (held : Held) (number : ℕ) (olds : List ℕ) (upto : ℕ) → number ≡ held.number → olds ≡ held.old → upto ≡ held.upto → IsUploadedHeld log core held → IsReplaceable log core number olds upto
+pub may_replace : (log : Log) (core : Core) (held : WorkerHeld) (number : ℕ) (olds : List ℕ) (upto : ℕ) → number ≡ held.number → olds ≡ held.old → upto ≡ held.upto → IsUploadedHeld log core held → IsReplaceable log core number olds upto
 may_replace log core held number olds upto same rows last u =
     subst (λ n. IsReplaceable log core n olds upto) (sym same)
     (subst (λ os. IsReplaceable log core held.number os upto) (sym rows) (subst (λ l. IsReplaceable log core held.number held.old l) (sym last) (held_is_replaceable log core held u)))

@@ -52,14 +52,14 @@ use Rattle.upkeep_run.specs.Ending.{Ends, EndsDrop, EndsDropped, EndsLeft, EndsR
 use Rattle.upkeep_run.specs.Judging.{AreSplits}
 use Rattle.upkeep_run.specs.Outcomes as outcomes
 use Rattle.upkeep_run.specs.Outcomes.{UpkeepOutcome}
-use Rattle.upkeep_run.specs.Places.{Held, IsHeldMade, IsPlannedFor, IsRowInHand, IsWork, Work, fetching, held_facts, held_file, idle, marks_of, rejected_of, row_numbers, staged, until_of}
+use Rattle.upkeep_run.specs.Places.{WorkerHeld, IsHeldMade, IsPlannedFor, IsRowInHand, IsWork, Work, fetching, held_facts, held_file, idle, marks_of, rejected_of, row_numbers, staged, until_of}
 use Rattle.upkeep_run.specs.Standing.{Answers, LeavesOf, PlaceStands, Raises, StagedTold, Stages, StepsAs, WorkStands}
 use Rattle.upkeep_run.specs.Steps.{documents_of, drops_none, first_number, held_of, left_of, lost_outcome, raise_by, raise_given, stage_by, stage_given, stage_outcome, step_raise, step_stage, step_work, step_worker, stepped}
 use Rattle.upkeep_run.specs.declared.outcome.UpkeepOutcome.{UpkeepOutcome as Said}
 use Rattle.upkeep_run.specs.declared.outcome.UpkeepOutcome.TheVariants as said
 use Rattle.upkeep_run.specs.declared.work.Aim.TheVariants.{Deleting}
-use Rattle.upkeep_run.specs.declared.work.Place.{Place as HeldPlace}
-use Rattle.upkeep_run.specs.declared.work.Place.TheVariants as places
+use Rattle.upkeep_run.specs.declared.work.WorkerPlace.{WorkerPlace as HeldPlace}
+use Rattle.upkeep_run.specs.declared.work.WorkerPlace.TheVariants as places
 use Rattle.upkeep_run.specs.declared.work.Work.{Work as HeldWork}
 use Rattle.upkeep_run.proofs.DropLeaves.{One, all_asked, asked_so, drop_leaves, first_row, one_row}
 use Rattle.upkeep_run.proofs.Ended.{ends_by, ends_short, ends_where}
@@ -200,7 +200,7 @@ module _ (core : Core) (log : Log) (held : HeldWork) (work : Work) (ws : WorkSta
 
   module _ (built : BuiltSplit) (is : IsLog log) (made : IsMadeLeft built) where
     -- the replacement, under a number
-    abbrev pub replacement : ℕ → Held
+    abbrev pub replacement : ℕ → WorkerHeld
     replacement number = held_of Deleting work core number
 
     file_made : built.bytes ≡ held_file (replacement 0)
@@ -341,10 +341,10 @@ module _ (core : Core) (log : Log) (held : HeldWork) (work : Work) (ws : WorkSta
     -- ---- a replacement is staged
 
     module _ (some : dropped ≡ [] → ⊥) (built : BuiltSplit) (is : IsLog log) (made : IsMadeLeft built) where
-      abbrev new_row : ℕ → Held
+      abbrev new_row : ℕ → WorkerHeld
       new_row number = held_of Deleting work core number
 
-      abbrev with_left : List Placed → ℕ → Held
+      abbrev with_left : List Placed → ℕ → WorkerHeld
       with_left ds number = record { config = work.config; number = number; old = row_numbers work.rows; upto = work.upto; documents = ds; rejected = rejected_of work.rows }
 
       facts_are : facts_said held.plan.rows built ≡ held_facts (held_of Deleting work core 0)

@@ -23,7 +23,7 @@ use Rattle.index_world.specs.Gate.{IsSoundCore}
 use Rattle.index_world.specs.Index.{IsAllowed, max_entries}
 use Rattle.index_world.specs.World.{GoesFor, GoesOn}
 use Rattle.upkeep_run.specs.Losing.{CanRaise, CanReplace, LosesUnless, rows_in}
-use Rattle.upkeep_run.specs.Places.{Held, IsUploadedHeld, IsWork, Work, fetching, uploaded}
+use Rattle.upkeep_run.specs.Places.{WorkerHeld, IsUploadedHeld, IsWork, Work, fetching, uploaded}
 use Rattle.upkeep_run.specs.Steps.{WorkerLuck, Stepped, drops_none, first_number, or_short, raise_by, replace_by, step_raise, step_replace, step_stage, step_work, step_worker, trouble_outcome, held_of}
 use Rattle.index_world.specs.Gate.{raise_call, replace_call}
 use Rattle.upkeep_run.specs.declared.work.Aim.{Aim}
@@ -140,7 +140,7 @@ none_lost : (Can : List Row → Type 0) (trouble : Trouble) (after : Core) → L
 none_lost Can (faulted fault) after = tt
 none_lost Can no_memory after = tt
 
-module _ (log : Log) (held : Held) where
+module _ (log : Log) (held : WorkerHeld) where
   abbrev Can : List Row → Type 0
   Can rs = CanReplace rs held.number held.old
 

@@ -31,14 +31,14 @@ use Rattle.upkeep_run.specs.Ending.{Told, facts_said, unstaged_said}
 use Rattle.upkeep_run.specs.Judging.{AreSplits}
 use Rattle.upkeep_run.specs.Outcomes as outcomes
 use Rattle.upkeep_run.specs.Outcomes.{UpkeepOutcome}
-use Rattle.upkeep_run.specs.Places.{Held, IsPlannedFor, IsWork, Work, fetching, held_facts, row_numbers, staged, until_of}
+use Rattle.upkeep_run.specs.Places.{WorkerHeld, IsPlannedFor, IsWork, Work, fetching, held_facts, row_numbers, staged, until_of}
 use Rattle.upkeep_run.specs.Standing.{Answers, PlaceStands, StagedTold, Stages, StepsAs, WorkStands}
 use Rattle.upkeep_run.specs.Steps.{held_of, stage_by, stage_given, stage_outcome, step_work, step_worker}
 use Rattle.upkeep_run.specs.declared.outcome.UpkeepOutcome.{UpkeepOutcome as Said}
 use Rattle.upkeep_run.specs.declared.outcome.UpkeepOutcome.TheVariants as said
 use Rattle.upkeep_run.specs.declared.work.Aim.TheVariants.{Merging}
-use Rattle.upkeep_run.specs.declared.work.Place.{Place as HeldPlace}
-use Rattle.upkeep_run.specs.declared.work.Place.TheVariants as places
+use Rattle.upkeep_run.specs.declared.work.WorkerPlace.{WorkerPlace as HeldPlace}
+use Rattle.upkeep_run.specs.declared.work.WorkerPlace.TheVariants as places
 use Rattle.upkeep_run.specs.declared.work.Work.{Work as HeldWork}
 use Rattle.upkeep_run.proofs.Holding.{made_stays, sound_legal}
 use Rattle.upkeep_run.proofs.Making.{IsBuiltOf, all_kept, are_splits, as_many, count_is, facts_held, file_held, files_are, merge_is_made, weights_are}
@@ -154,7 +154,7 @@ module _ (core : Core) (log : Log) (held : HeldWork) (work : Work) (ws : WorkSta
           by (Ok tt) did w =
               let after = d.acts.after in
               let number = last_number (history after.history) in
-              let replacement : Held = held_of Merging work core number in
+              let replacement : WorkerHeld = held_of Merging work core number in
               let called = stage_called (Some (outcomes.Staged number)) (Ok token) d (λ short. absurd short) in
               let goes = called_goes called between in
               let in_hand : IsStagedIn [] (held_facts (held_of Merging work core 0)) after number = subst (λ n. IsStagedIn [] (held_facts (held_of Merging work core 0)) after n) w.number (subst (λ f. IsStagedIn [] f after token.number) facts_are w.in_hand) in

@@ -23,15 +23,15 @@ use Rattle.index_world.specs.declared.world_error.WorldError.{WorldError}
 use Rattle.upkeep_run.specs.Asking.{whole}
 use Rattle.upkeep_run.specs.Outcomes as outcomes
 use Rattle.upkeep_run.specs.Outcomes.{UpkeepOutcome}
-use Rattle.upkeep_run.specs.Places.{Place, Work, fetching, idle}
+use Rattle.upkeep_run.specs.Places.{WorkerPlace, Work, fetching, idle}
 use Rattle.upkeep_run.specs.Standing.{Answers, PlaceStands, StepsAs}
 use Rattle.upkeep_run.specs.Steps.{choice_of, plan_by, plan_given, plan_with, rows_in, step_worker, stepped, trouble_outcome, work_in}
 use Rattle.upkeep_run.specs.declared.outcome.UpkeepOutcome.{UpkeepOutcome as Said}
 use Rattle.upkeep_run.specs.declared.outcome.UpkeepOutcome.TheVariants as said
 use Rattle.upkeep_run.specs.declared.work.Aim.{Aim}
 use Rattle.upkeep_run.specs.declared.work.Aim.TheVariants.{Deleting, Merging}
-use Rattle.upkeep_run.specs.declared.work.Place.{Place as HeldPlace}
-use Rattle.upkeep_run.specs.declared.work.Place.TheVariants as places
+use Rattle.upkeep_run.specs.declared.work.WorkerPlace.{WorkerPlace as HeldPlace}
+use Rattle.upkeep_run.specs.declared.work.WorkerPlace.TheVariants as places
 use Rattle.upkeep_run.specs.declared.work.Work.{Work as HeldWork}
 use Rattle.upkeep_run.proofs.Planning.{plan_is_for, plan_is_work}
 use Rattle.upkeep_run.proofs.Stepping.{by_world, called_of, ends_at, ends_idle, trouble_none}
@@ -47,7 +47,7 @@ no_rows [] e = refl
 no_rows (row ∷ rows) e = absurd (omega (arith, e))
 
 module _ {W : Type 0} (Stands : W → Core → Log → Type 0) (Between : Core → Core → Type 0) (Owns : W → ℕ → Type 0) (Adds : W → List CallMade → W → Type 0) (aim : Aim) (core : Core) (log : Log) (old new : W) where
-  abbrev Steps : Result Said AllocError → Place → HeldPlace → Type 0
+  abbrev Steps : Result Said AllocError → WorkerPlace → HeldPlace → Type 0
   Steps result place kept = StepsAs Stands Between Owns Adds aim result place core log kept old new
 
   abbrev Plans : Result Plan WorldError → Type 0

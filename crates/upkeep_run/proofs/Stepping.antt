@@ -20,14 +20,14 @@ use Rattle.index_world.specs.declared.world_error.WorldError.TheVariants as erro
 use Rattle.upkeep_run.specs.Asking.{ask_of}
 use Rattle.upkeep_run.specs.Outcomes as outcomes
 use Rattle.upkeep_run.specs.Outcomes.{UpkeepOutcome}
-use Rattle.upkeep_run.specs.Places.{Held, IsStagedHeld, Place, held_file, idle, number_held, staged, uploaded}
+use Rattle.upkeep_run.specs.Places.{WorkerHeld, IsStagedHeld, WorkerPlace, held_file, idle, number_held, staged, uploaded}
 use Rattle.upkeep_run.specs.Standing.{Answers, PlaceStands, PlanHolds, StepsAs}
 use Rattle.upkeep_run.specs.Steps.{WorkerLuck, lost_outcome, replace_by, replace_given, stage_outcome, step_worker, stepped, trouble_outcome, upload_by, upload_given}
 use Rattle.upkeep_run.specs.declared.outcome.UpkeepOutcome.{UpkeepOutcome as Said}
 use Rattle.upkeep_run.specs.declared.outcome.UpkeepOutcome.TheVariants as said
 use Rattle.upkeep_run.specs.declared.work.Aim.{Aim}
-use Rattle.upkeep_run.specs.declared.work.Place.{Place as HeldPlace}
-use Rattle.upkeep_run.specs.declared.work.Place.TheVariants as places
+use Rattle.upkeep_run.specs.declared.work.WorkerPlace.{WorkerPlace as HeldPlace}
+use Rattle.upkeep_run.specs.declared.work.WorkerPlace.TheVariants as places
 use Rattle.upkeep_run.proofs.Holding.{uploaded_is_held}
 use Rattle.index_world.specs.Config.{reads}
 use Rattle.meta_store.specs.State.{Legal}
@@ -108,11 +108,11 @@ none_called Stands Between Owns Adds one ask free core log old new stands passed
     record { passed = passed; owned = λ n own u. u; goes = stays_as_is (IsOther one) core; stands = stands; made = []; own = none; asked = inr (refl, refl, may) }
 
 module _ {W : Type 0} (Stands : W → Core → Log → Type 0) (Between : Core → Core → Type 0) (Owns : W → ℕ → Type 0) (Adds : W → List CallMade → W → Type 0) (aim : Aim) (core : Core) (log : Log) (old new : W) where
-  abbrev Steps : Result Said AllocError → Place → HeldPlace → Type 0
+  abbrev Steps : Result Said AllocError → WorkerPlace → HeldPlace → Type 0
   Steps result place kept = StepsAs Stands Between Owns Adds aim result place core log kept old new
 
   -- a step behind which it is idle
-  pub ends_idle : (place : Place) (kept : HeldPlace) (result : Result Said AllocError) (mid after : Core) (luck : WorkerLuck) (outcome : Option UpkeepOutcome) →
+  pub ends_idle : (place : WorkerPlace) (kept : HeldPlace) (result : Result Said AllocError) (mid after : Core) (luck : WorkerLuck) (outcome : Option UpkeepOutcome) →
       Called Stands Between Owns Adds (number_held place) (ask_of aim place mid) (outcome ≡ None) core log old new mid after →
       step_worker aim luck log place mid ≡ stepped outcome idle after → Answers result outcome → kept ≡ places.Idle → Steps result place kept
   ends_idle place kept result mid after luck outcome called did answer is =
@@ -136,7 +136,7 @@ module _ {W : Type 0} (Stands : W → Core → Log → Type 0) (Between : Core �
       }
 
   -- a step behind which it holds something, of a number that it held or that is new
-  pub ends_at : (place next : Place) (kept : HeldPlace) (result : Result Said AllocError) (mid after : Core) (luck : WorkerLuck) (outcome : Option UpkeepOutcome) →
+  pub ends_at : (place next : WorkerPlace) (kept : HeldPlace) (result : Result Said AllocError) (mid after : Core) (luck : WorkerLuck) (outcome : Option UpkeepOutcome) →
       Called Stands Between Owns Adds (number_held place) (ask_of aim place mid) (outcome ≡ None) core log old new mid after →
       step_worker aim luck log place mid ≡ stepped outcome next after → Answers result outcome → PlaceStands aim log after kept next →
       ((n : ℕ) → has_staged (journal_of core) n ≡ true → number_held next ≡ Some n → number_held place ≡ Some n) → Steps result place kept
@@ -162,7 +162,7 @@ module _ {W : Type 0} (Stands : W → Core → Log → Type 0) (Between : Core �
 
   -- ---- a Replace
 
-  module _ (held : Held) (number : ℕ) (olds : List ℕ) (upto : ℕ) (same : number ≡ held.number) (rows : olds ≡ held.old) (last : upto ≡ held.upto) where
+  module _ (held : WorkerHeld) (number : ℕ) (olds : List ℕ) (upto : ℕ) (same : number ≡ held.number) (rows : olds ≡ held.old) (last : upto ≡ held.upto) where
     abbrev Replaces : Result ℕ WorldError → Type 0
     Replaces result = Does Stands Between Owns Adds None (of_replace number olds upto) (replace_call number olds upto) IsUnmade IsRevision result core log old new
 
@@ -212,7 +212,7 @@ module _ {W : Type 0} (Stands : W → Core → Log → Type 0) (Between : Core �
 
   -- ---- an upload
 
-  module _ (held : Held) (number : ℕ) (bytes : List ℕ) (same : number ≡ held.number) (file : bytes ≡ held_file held) where
+  module _ (held : WorkerHeld) (number : ℕ) (bytes : List ℕ) (same : number ≡ held.number) (file : bytes ≡ held_file held) where
     abbrev Uploads : Result Uploaded WorldError → Type 0
     Uploads result = Does Stands Between Owns Adds (Some number) (of_upload number bytes) (λ fate c. upload_made fate number bytes c) IsTrouble (WasUploaded number bytes) result core log old new
 

@@ -3,7 +3,7 @@ use Rattle.std.specs.Prelude.{ℕ, ◌-◌, ◌^◌, List, [], ◌∷◌, if◌t
 use Rattle.split_states.specs.declared.rows.Row.{Row}
 use Rattle.index_world.specs.CallsMade.{Ask, of_fetch, of_plan, of_raise, of_replace, of_stage, of_upload}
 use Rattle.index_world.specs.Core.{Core}
-use Rattle.upkeep_run.specs.Places.{Place, Work, fetching, held_facts, held_file, idle, staged, uploaded}
+use Rattle.upkeep_run.specs.Places.{WorkerPlace, Work, fetching, held_facts, held_file, idle, staged, uploaded}
 use Rattle.upkeep_run.specs.Steps.{choice_of, drops_none, first_number, held_of}
 use Rattle.upkeep_run.specs.declared.work.Aim.{Aim}
 use Rattle.upkeep_run.specs.declared.work.Aim.TheVariants.{Deleting, Merging}
@@ -21,7 +21,7 @@ ask_at_work aim work [] core = ask_to_close aim work core
 ask_at_work aim work (row ∷ more) core = of_fetch row.number 0 whole
 
 -- the one call that a step at this place makes over a core
-abbrev pub ask_of : Aim → Place → Core → Ask
+abbrev pub ask_of : Aim → WorkerPlace → Core → Ask
 ask_of aim idle core = of_plan (choice_of aim)
 ask_of aim (fetching work) core = ask_at_work aim work work.unfetched core
 ask_of aim (staged held) core = of_upload held.number (held_file held)

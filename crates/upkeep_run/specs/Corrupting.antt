@@ -21,8 +21,8 @@ use Rattle.upkeep_run.specs.Dropping.{IsUnasked}
 use Rattle.upkeep_run.specs.Ending.{Told, corrupt_said, number_at, tasks_asked}
 use Rattle.upkeep_run.specs.Judging.{AreSplits}
 use Rattle.upkeep_run.specs.declared.outcome.UpkeepOutcome.TheVariants as said
-use Rattle.upkeep_run.specs.declared.work.Place.{Place as HeldPlace}
-use Rattle.upkeep_run.specs.declared.work.Place.TheVariants as places
+use Rattle.upkeep_run.specs.declared.work.WorkerPlace.{WorkerPlace as HeldPlace}
+use Rattle.upkeep_run.specs.declared.work.WorkerPlace.TheVariants as places
 use Rattle.upkeep_run.specs.declared.work.Work.{Work as HeldWork}
 
 -- this key is told as corrupt

@@ -32,8 +32,8 @@ use Rattle.upkeep_run.specs.declared.work.Aim.{Aim}
 use Rattle.upkeep_run.specs.declared.work.Aim.TheVariants.{Deleting, Merging}
 use Rattle.upkeep_run.specs.declared.outcome.UpkeepOutcome.{UpkeepOutcome as Said}
 use Rattle.upkeep_run.specs.declared.outcome.UpkeepOutcome.TheVariants as said
-use Rattle.upkeep_run.specs.declared.work.Place.{Place as HeldPlace}
-use Rattle.upkeep_run.specs.declared.work.Place.TheVariants as places
+use Rattle.upkeep_run.specs.declared.work.WorkerPlace.{WorkerPlace as HeldPlace}
+use Rattle.upkeep_run.specs.declared.work.WorkerPlace.TheVariants as places
 use Rattle.upkeep_run.specs.declared.work.Work.{Work as HeldWork}
 
 -- what a step of the code gives

@@ -32,7 +32,7 @@ pub record Work : Type 0 where
   pub unfetched : List Row
 
 -- the documents of a replacement of rows, under its staged number: without those that tasks up to one cover
-pub record Held : Type 0 where
+pub record WorkerHeld : Type 0 where
   pub config : IndexConfig
   pub number : ℕ
   pub old : List ℕ
@@ -40,20 +40,20 @@ pub record Held : Type 0 where
   pub documents : List Placed
   pub rejected : ℕ
 
-pub data Place : Type 0 where
-  idle : Place
-  fetching : Work → Place
-  staged : Held → Place
-  uploaded : Held → Place
+pub data WorkerPlace : Type 0 where
+  idle : WorkerPlace
+  fetching : Work → WorkerPlace
+  staged : WorkerHeld → WorkerPlace
+  uploaded : WorkerHeld → WorkerPlace
 
-abbrev pub is_idle : Place → Bool
+abbrev pub is_idle : WorkerPlace → Bool
 is_idle idle = true
 is_idle (fetching work) = false
 is_idle (staged held) = false
 is_idle (uploaded held) = false
 
 -- the number that it holds, if it holds one
-abbrev pub number_held : Place → Option ℕ
+abbrev pub number_held : WorkerPlace → Option ℕ
 number_held idle = None
 number_held (fetching work) = None
 number_held (staged held) = Some held.number
@@ -106,14 +106,14 @@ pub record IsPlannedFor (aim : Aim) (work : Work) : Type 0 where
 
 -- ---- a replacement
 
-abbrev pub held_file : Held → List ℕ
+abbrev pub held_file : WorkerHeld → List ℕ
 held_file held = file_of held.config held.documents
 
-abbrev pub held_facts : Held → RowFacts
+abbrev pub held_facts : WorkerHeld → RowFacts
 held_facts held = facts_of held.config held.documents held.rejected
 
 -- its file was made of the files that were fetched of the planned rows
-pub record IsHeldMade (log : Log) (core : Core) (held : Held) : Type 0 where
+pub record IsHeldMade (log : Log) (core : Core) (held : WorkerHeld) : Type 0 where
   pub some : held.old ≢ []
   pub apart : AreApart held.old
   pub files : List (List ℕ)
@@ -123,13 +123,13 @@ pub record IsHeldMade (log : Log) (core : Core) (held : Held) : Type 0 where
   pub known : held.upto ≤ last_opstamp (history core.history)
   pub made : IsMadeOf held.config log (ledger reads (history core.history)).tasks held.upto (joined marks) files (held_facts held) (held_file held)
 
-pub record IsStagedHeld (log : Log) (core : Core) (held : Held) : Type 0 where
+pub record IsStagedHeld (log : Log) (core : Core) (held : WorkerHeld) : Type 0 where
   pub configured : IsConfigured held.config core
   pub unused : IsUnusedIn core held.number
   pub staged : HasStagedIn core held.number [] (held_facts held)
   pub made : IsHeldMade log core held
 
-pub record IsUploadedHeld (log : Log) (core : Core) (held : Held) : Type 0 where
+pub record IsUploadedHeld (log : Log) (core : Core) (held : WorkerHeld) : Type 0 where
   pub configured : IsConfigured held.config core
   pub uploaded : IsUploadedIn core held.number (held_file held)
   pub staged : HasStagedIn core held.number [] (held_facts held)

@@ -27,13 +27,13 @@ use Rattle.upkeep_run.specs.Ending.{Told, facts_said, raised_said, unstaged_said
 use Rattle.upkeep_run.specs.Judging.{AreSplits}
 use Rattle.upkeep_run.specs.Outcomes.{UpkeepOutcome, Faulted}
 use Rattle.upkeep_run.specs.Outcomes as outcomes
-use Rattle.upkeep_run.specs.Places.{Held, IsStagedHeld, IsPlannedFor, IsUploadedHeld, IsWork, Place, Work, fetching, held_file, idle, marks_of, number_held, staged, uploaded}
+use Rattle.upkeep_run.specs.Places.{WorkerHeld, IsStagedHeld, IsPlannedFor, IsUploadedHeld, IsWork, WorkerPlace, Work, fetching, held_file, idle, marks_of, number_held, staged, uploaded}
 use Rattle.upkeep_run.specs.Steps.{WorkerLuck, step_worker}
 use Rattle.upkeep_run.specs.declared.work.Aim.{Aim}
 use Rattle.upkeep_run.specs.declared.outcome.UpkeepOutcome.{UpkeepOutcome as Said}
 use Rattle.upkeep_run.specs.declared.outcome.UpkeepOutcome.TheVariants as said
-use Rattle.upkeep_run.specs.declared.work.Place.{Place as HeldPlace}
-use Rattle.upkeep_run.specs.declared.work.Place.TheVariants as places
+use Rattle.upkeep_run.specs.declared.work.WorkerPlace.{WorkerPlace as HeldPlace}
+use Rattle.upkeep_run.specs.declared.work.WorkerPlace.TheVariants as places
 use Rattle.upkeep_run.specs.declared.work.Work.{Work as HeldWork}
 
 -- ---- outcomes
@@ -83,18 +83,18 @@ pub record WorkStands (held : HeldWork) (work : Work) : Type 0 where
   pub unfetched : work.unfetched ≡ drop held.next work.rows
 
 -- a replacement of the plan's rows
-pub record PlanHolds (aim : Aim) (plan : Plan) (held : Held) : Type 0 where
+pub record PlanHolds (aim : Aim) (plan : Plan) (held : WorkerHeld) : Type 0 where
   pub old : numbers_of plan.rows ≡ held.old
   pub upto : upto_of aim plan ≡ held.upto
 
 -- what is held is what the place says, made of planned rows and in hand
-abbrev pub PlaceStands : Aim → Log → Core → HeldPlace → Place → Type 0
+abbrev pub PlaceStands : Aim → Log → Core → HeldPlace → WorkerPlace → Type 0
 PlaceStands aim log core places.Idle place = place ≡ idle
 PlaceStands aim log core (places.Fetching held) place = (work : Work) × (place ≡ fetching work) × WorkStands held work × IsWork log core work × IsPlannedFor aim work
 PlaceStands aim log core (places.Staged plan token bytes) place =
-    (held : Held) × (place ≡ staged held) × PlanHolds aim plan held × (token.number ≡ held.number) × (bytes ≡ held_file held) × IsStagedHeld log core held
+    (held : WorkerHeld) × (place ≡ staged held) × PlanHolds aim plan held × (token.number ≡ held.number) × (bytes ≡ held_file held) × IsStagedHeld log core held
 PlaceStands aim log core (places.Uploaded plan token) place =
-    (held : Held) × (place ≡ uploaded held) × PlanHolds aim plan held × (token.number ≡ held.number) × IsUploadedHeld log core held
+    (held : WorkerHeld) × (place ≡ uploaded held) × PlanHolds aim plan held × (token.number ≡ held.number) × IsUploadedHeld log core held
 
 -- a staged number that it holds is its own at the gate
 abbrev pub HoldsOwn : {W : Type 0} → (W → ℕ → Type 0) → W → HeldPlace → Type 0
@@ -115,13 +115,13 @@ HoldsNone (places.Uploaded plan token) = Unit {0}
 -- A step is the machine's with some luck, behind what other actors did before its call of the world, which left unused what the caller
 -- owns. The gate recorded the call as its own.
 pub record StepsAs {W : Type 0} (Stands : W → Core → Log → Type 0) (Between : Core → Core → Type 0) (Owns : W → ℕ → Type 0) (Adds : W → List CallMade → W → Type 0)
-    (aim : Aim) (result : Result Said AllocError) (place : Place) (core : Core) (log : Log) (kept : HeldPlace) (old new : W) : Type 0 where
+    (aim : Aim) (result : Result Said AllocError) (place : WorkerPlace) (core : Core) (log : Log) (kept : HeldPlace) (old new : W) : Type 0 where
   pub mid : Core
   pub passed : Between core mid
   pub owned : (number : ℕ) → Owns old number → IsUnusedIn core number → IsUnusedIn mid number
   pub luck : WorkerLuck
   pub outcome : Option UpkeepOutcome
-  pub after : Place
+  pub after : WorkerPlace
   pub behind : Core
   pub did : step_worker aim luck log place mid ≡ record { outcome = outcome; place = after; core = behind }
   pub answer : Answers result outcome

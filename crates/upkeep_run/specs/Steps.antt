@@ -22,7 +22,7 @@ use Rattle.upkeep_run.specs.Outcomes.{UpkeepOutcome}
 use Rattle.upkeep_run.specs.Outcomes as said
 use Rattle.upkeep_run.specs.declared.work.Aim.{Aim}
 use Rattle.upkeep_run.specs.declared.work.Aim.TheVariants.{Deleting, Merging}
-use Rattle.upkeep_run.specs.Places.{Held, Place, Work, fetching, held_facts, held_file, idle, marks_of, rejected_of, row_numbers, staged, until_of, uploaded}
+use Rattle.upkeep_run.specs.Places.{WorkerHeld, WorkerPlace, Work, fetching, held_facts, held_file, idle, marks_of, rejected_of, row_numbers, staged, until_of, uploaded}
 
 -- what its rows are planned for
 abbrev pub choice_of : Aim → Choice
@@ -37,10 +37,10 @@ pub record WorkerLuck : Type 0 where
 -- What a step answers, and where it is and the core behind it. Without memory there is no outcome.
 pub record Stepped : Type 0 where
   pub outcome : Option UpkeepOutcome
-  pub place : Place
+  pub place : WorkerPlace
   pub core : Core
 
-abbrev pub stepped : Option UpkeepOutcome → Place → Core → Stepped
+abbrev pub stepped : Option UpkeepOutcome → WorkerPlace → Core → Stepped
 stepped outcome place core = record { outcome = outcome; place = place; core = core }
 
 -- ---- why a call gave nothing
@@ -122,21 +122,21 @@ abbrev pub left_of : Work → Core → List Placed
 left_of work core = left_in work.config (ledger reads (history core.history)).tasks work.upto (joined (map marks_of work.rows)) (documents_of work)
 
 -- A merge leaves all documents, and is applied up to no task.
-abbrev pub held_of : Aim → Work → Core → (number : ℕ) → Held
+abbrev pub held_of : Aim → Work → Core → (number : ℕ) → WorkerHeld
 held_of Merging work core number =
     record { config = work.config; number = number; old = row_numbers work.rows; upto = 0; documents = documents_of work; rejected = rejected_of work.rows }
 held_of Deleting work core number =
     record { config = work.config; number = number; old = row_numbers work.rows; upto = work.upto; documents = left_of work core; rejected = rejected_of work.rows }
 
-abbrev pub stage_by : Result ⊤ Unmade → (held : ℕ → Held) → Core → Stepped
+abbrev pub stage_by : Result ⊤ Unmade → (held : ℕ → WorkerHeld) → Core → Stepped
 stage_by (Ok done) held core = stepped (Some (said.Staged (last_number (history core.history)))) (staged (held (last_number (history core.history)))) core
 stage_by (Err unmade) held core = stepped (stage_outcome unmade) idle core
 
-abbrev pub stage_given : (held : ℕ → Held) → Gives Unmade ⊤ → Stepped
+abbrev pub stage_given : (held : ℕ → WorkerHeld) → Gives Unmade ⊤ → Stepped
 stage_given held given = stage_by given.answer held given.core
 
 -- the facts say nothing of the number
-abbrev pub step_stage : WorkerLuck → (held : ℕ → Held) → Core → Stepped
+abbrev pub step_stage : WorkerLuck → (held : ℕ → WorkerHeld) → Core → Stepped
 step_stage luck held core = stage_given held (stage_call [] (held_facts (held 0)) luck.world core)
 
 abbrev pub raise_by : Result ⊤ Unmade → (number : ℕ) → Core → Stepped
@@ -168,14 +168,14 @@ step_work aim luck work (row ∷ more) core = step_fetch luck work row.number mo
 
 -- ---- staged: its file is made
 
-abbrev pub upload_by : Result ⊤ Trouble → Held → Core → Stepped
+abbrev pub upload_by : Result ⊤ Trouble → WorkerHeld → Core → Stepped
 upload_by (Ok done) held core = stepped (Some (said.Uploaded held.number)) (uploaded held) core
 upload_by (Err trouble) held core = stepped (trouble_outcome trouble) idle core
 
-abbrev pub upload_given : Held → Gives Trouble ⊤ → Stepped
+abbrev pub upload_given : WorkerHeld → Gives Trouble ⊤ → Stepped
 upload_given held given = upload_by given.answer held given.core
 
-abbrev pub step_upload : WorkerLuck → Held → Core → Stepped
+abbrev pub step_upload : WorkerLuck → WorkerHeld → Core → Stepped
 step_upload luck held core = upload_given held (upload_made luck.world held.number (held_file held) core)
 
 -- ---- uploaded: the planned rows are replaced
@@ -187,12 +187,12 @@ replace_by (Err unmade) number core = stepped (lost_outcome number unmade) idle 
 abbrev pub replace_given : (number : ℕ) → Gives Unmade ⊤ → Stepped
 replace_given number given = replace_by given.answer number given.core
 
-abbrev pub step_replace : WorkerLuck → Held → Core → Stepped
+abbrev pub step_replace : WorkerLuck → WorkerHeld → Core → Stepped
 step_replace luck held core = replace_given held.number (replace_call held.number held.old held.upto luck.world core)
 
 -- ---- a step
 
-abbrev pub step_place : Aim → Place → WorkerLuck → Log → Core → Stepped
+abbrev pub step_place : Aim → WorkerPlace → WorkerLuck → Log → Core → Stepped
 step_place aim idle luck log core = step_plan aim luck log core
 step_place aim (fetching work) luck log core = step_work aim luck work work.unfetched core
 step_place aim (staged held) luck log core = step_upload luck held core
@@ -203,7 +203,7 @@ abbrev pub or_short : Bool → Stepped → Stepped
 or_short true step = stepped None idle step.core
 or_short false step = step
 
-abbrev pub step_worker : Aim → WorkerLuck → Log → Place → Core → Stepped
+abbrev pub step_worker : Aim → WorkerLuck → Log → WorkerPlace → Core → Stepped
 step_worker aim luck log place core = or_short luck.short (step_place aim place luck log core)
 
 -- nothing lands, nothing fails, and memory is there

@@ -12,7 +12,7 @@ ghost use Rattle.meta_store.specs.declared.planning.PlanRow.{PlanRow as Row};
 ghost use Rattle.upkeep_run.specs.Corrupting.{CorruptClose, CorruptDelete, CorruptDeleteAt, IsCorrupt, LeftFault};
 ghost use Rattle.upkeep_run.specs.Dropping.{DropsOf, IsUnasked};
 ghost use Rattle.upkeep_run.specs.Ending.{Ends, EndsClose, EndsDelete, EndsDeleteAt, EndsDropped, EndsLeft, spans_of, tasks_asked};
-ghost use Rattle.upkeep_run.specs.Places.{IsPlannedFor, IsWork, Place as Stand, Work as Planned, fetching, idle, is_idle};
+ghost use Rattle.upkeep_run.specs.Places.{IsPlannedFor, IsWork, WorkerPlace as Stand, Work as Planned, fetching, idle, is_idle};
 ghost use Rattle.upkeep_run.specs.Standing.{HoldsOwn, LeavesOf, PlaceStands, StepsAs, WorkStands};
 ghost use Rattle.upkeep_run.specs.declared.work.Aim.TheVariants.{Deleting};
 
@@ -20,7 +20,7 @@ use crate::dropping::{dropped, least_of};
 use crate::judging::merged;
 use crate::outcome::UpkeepOutcome;
 use crate::work::{
-    Aim, Place, Work, facts_fit, fetch, plan, put, raise_row, replace_rows, stage, unasked,
+    Aim, Work, WorkerPlace, facts_fit, fetch, plan, put, raise_row, replace_rows, stage, unasked,
     unmerged, upload,
 };
 use doc_sets::LeafError;
@@ -34,7 +34,7 @@ use std::mem;
 /// Removes what tasks cover from the published row of least number that is not applied up to the last task, step by step.
 #[derive(Drop)]
 pub struct DeleteWorker {
-    place: Place,
+    place: WorkerPlace,
 }
 
 // The spans of a planned row.
@@ -68,26 +68,28 @@ fn dropped_of<G: Gate>(
 
 impl DeleteWorker {
     pub fn start() -> DeleteWorker
-        ensures idle { result.place ≡ Place.Idle }
+        ensures idle { result.place ≡ WorkerPlace.Idle }
         ensures stands { (core : Core) (log : Log) → PlaceStands Deleting log core result.place idle }
     {
-        DeleteWorker { place: Place::Idle }
+        DeleteWorker {
+            place: WorkerPlace::Idle,
+        }
     }
 
     /// Drops what it works on.
     pub fn restart(&mut self)
-        ensures idle { self.new.place ≡ Place.Idle }
+        ensures idle { self.new.place ≡ WorkerPlace.Idle }
         ensures stands { (core : Core) (log : Log) → PlaceStands Deleting log core self.new.place idle }
     {
-        put(&mut self.place, Place::Idle);
+        put(&mut self.place, WorkerPlace::Idle);
     }
 
     pub fn is_idle(&self) -> bool
         ensures stands { (place : Stand) (core : Core) (log : Log) → PlaceStands Deleting log core self.now.place place → result ≡ is_idle place }
-        ensures exact { IsTrue result ↔ (self.now.place ≡ Place.Idle) }
+        ensures exact { IsTrue result ↔ (self.now.place ≡ WorkerPlace.Idle) }
     {
         match &self.place {
-            Place::Idle => true,
+            WorkerPlace::Idle => true,
             _ => false,
         }
     }
@@ -100,7 +102,7 @@ impl DeleteWorker {
         work: Work,
         dropped: &[u64],
     ) -> Result<UpkeepOutcome, AllocError>
-        requires idle { self.old.place ≡ Place.Idle }
+        requires idle { self.old.place ≡ WorkerPlace.Idle }
         requires rise { RiseFrom 0 dropped.now }
         ensures later { G.since gate.old gate.new }
         ensures owns { HoldsOwn G.Owns gate.new self.new.place }
@@ -133,7 +135,7 @@ impl DeleteWorker {
         number: u64,
         dropped: &[u64],
     ) -> Result<UpkeepOutcome, AllocError>
-        requires idle { self.old.place ≡ Place.Idle }
+        requires idle { self.old.place ≡ WorkerPlace.Idle }
         requires rise { RiseFrom 0 dropped.now }
         requires first { (row : Row) × (slice_get work.plan.rows 0 ≡ Some row) × (row.number ≡ number) }
         requires begun { (log : Log) → G.Begins gate.old log → (core : Core) × (planned : Planned) × WorkStands work planned × IsWork log core planned × IsPlannedFor Deleting planned ×
@@ -160,7 +162,7 @@ impl DeleteWorker {
         gate: &mut G,
         work: Work,
     ) -> Result<UpkeepOutcome, AllocError>
-        requires idle { self.old.place ≡ Place.Idle }
+        requires idle { self.old.place ≡ WorkerPlace.Idle }
         requires begun { (log : Log) → G.Begins gate.old log → (core : Core) × (planned : Planned) × WorkStands work planned × IsWork log core planned × IsPlannedFor Deleting planned ×
             (planned.unfetched ≡ []) × G.Stands gate.old core log }
         ensures later { G.since gate.old gate.new }
@@ -199,7 +201,7 @@ impl DeleteWorker {
         gate: &mut G,
         work: Work,
     ) -> Result<UpkeepOutcome, AllocError>
-        requires idle { self.old.place ≡ Place.Idle }
+        requires idle { self.old.place ≡ WorkerPlace.Idle }
         requires begun { (log : Log) → G.Begins gate.old log → (core : Core) × (planned : Planned) × WorkStands work planned × IsWork log core planned × IsPlannedFor Deleting planned × G.Stands gate.old core log }
         ensures later { G.since gate.old gate.new }
         ensures owns { HoldsOwn G.Owns gate.new self.new.place }
@@ -234,13 +236,13 @@ impl DeleteWorker {
         // say, or for none of which all tasks can be asked, and always at its fetch where they stand for others than the row's facts say.
         ensures corrupt { CorruptDelete G.configured G.tasks_kept G.Answers self.old.place result gate.old gate.new }
     {
-        match mem::replace(&mut self.place, Place::Idle) {
-            Place::Idle => plan(alloc, gate, Aim::Deleting, &mut self.place),
-            Place::Fetching(work) => self.work_on(alloc, gate, work),
-            Place::Staged(plan, staged, bytes) => {
+        match mem::replace(&mut self.place, WorkerPlace::Idle) {
+            WorkerPlace::Idle => plan(alloc, gate, Aim::Deleting, &mut self.place),
+            WorkerPlace::Fetching(work) => self.work_on(alloc, gate, work),
+            WorkerPlace::Staged(plan, staged, bytes) => {
                 upload(alloc, gate, &mut self.place, plan, staged, &bytes)
             }
-            Place::Uploaded(plan, uploaded) => {
+            WorkerPlace::Uploaded(plan, uploaded) => {
                 replace_rows(alloc, gate, &plan, uploaded, plan.upto)
             }
         }

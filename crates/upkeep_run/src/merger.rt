@@ -5,14 +5,14 @@ ghost use Rattle.source_log.specs.Log.{IsLog, Log};
 ghost use Rattle.index_world.specs.Core.{Core};
 ghost use Rattle.upkeep_run.specs.Corrupting.{CorruptAt, CorruptStep, MergedCorrupt};
 ghost use Rattle.upkeep_run.specs.Ending.{Ends, EndsMerge, EndsAt, EndsStep};
-ghost use Rattle.upkeep_run.specs.Places.{IsPlannedFor, IsWork, Place as Stand, Work as Planned, fetching, idle, is_idle};
+ghost use Rattle.upkeep_run.specs.Places.{IsPlannedFor, IsWork, WorkerPlace as Stand, Work as Planned, fetching, idle, is_idle};
 ghost use Rattle.upkeep_run.specs.Standing.{HoldsOwn, PlaceStands, StepsAs, WorkStands};
 ghost use Rattle.upkeep_run.specs.declared.work.Aim.TheVariants.{Merging};
 
 use crate::judging::merged;
 use crate::outcome::UpkeepOutcome;
 use crate::work::{
-    Aim, Place, Work, facts_fit, fetch, plan, put, replace_rows, stage, unmerged, upload,
+    Aim, Work, WorkerPlace, facts_fit, fetch, plan, put, replace_rows, stage, unmerged, upload,
 };
 use index_world::Gate;
 use split_laws::built_is_one;
@@ -22,31 +22,33 @@ use std::mem;
 /// Replaces the rows that the policy chooses by one of all their documents, step by step.
 #[derive(Drop)]
 pub struct Merger {
-    place: Place,
+    place: WorkerPlace,
 }
 
 impl Merger {
     pub fn start() -> Merger
-        ensures idle { result.place ≡ Place.Idle }
+        ensures idle { result.place ≡ WorkerPlace.Idle }
         ensures stands { (core : Core) (log : Log) → PlaceStands Merging log core result.place idle }
     {
-        Merger { place: Place::Idle }
+        Merger {
+            place: WorkerPlace::Idle,
+        }
     }
 
     /// Drops what it works on.
     pub fn restart(&mut self)
-        ensures idle { self.new.place ≡ Place.Idle }
+        ensures idle { self.new.place ≡ WorkerPlace.Idle }
         ensures stands { (core : Core) (log : Log) → PlaceStands Merging log core self.new.place idle }
     {
-        put(&mut self.place, Place::Idle);
+        put(&mut self.place, WorkerPlace::Idle);
     }
 
     pub fn is_idle(&self) -> bool
         ensures stands { (place : Stand) (core : Core) (log : Log) → PlaceStands Merging log core self.now.place place → result ≡ is_idle place }
-        ensures exact { IsTrue result ↔ (self.now.place ≡ Place.Idle) }
+        ensures exact { IsTrue result ↔ (self.now.place ≡ WorkerPlace.Idle) }
     {
         match &self.place {
-            Place::Idle => true,
+            WorkerPlace::Idle => true,
             _ => false,
         }
     }
@@ -58,7 +60,7 @@ impl Merger {
         gate: &mut G,
         work: Work,
     ) -> Result<UpkeepOutcome, AllocError>
-        requires { self.old.place ≡ Place.Idle }
+        requires { self.old.place ≡ WorkerPlace.Idle }
         ensures later { G.since gate.old gate.new }
         ensures owns { HoldsOwn G.Owns gate.new self.new.place }
         ensures same { G.bytes_fetched gate.new ≡ G.bytes_fetched gate.old }
@@ -87,7 +89,7 @@ impl Merger {
         gate: &mut G,
         work: Work,
     ) -> Result<UpkeepOutcome, AllocError>
-        requires { self.old.place ≡ Place.Idle }
+        requires { self.old.place ≡ WorkerPlace.Idle }
         ensures later { G.since gate.old gate.new }
         ensures owns { HoldsOwn G.Owns gate.new self.new.place }
         // Whatever the gate tells.
@@ -121,13 +123,13 @@ impl Merger {
         // row's facts say, or where all files together pass the limits of a split.
         ensures corrupt { CorruptStep G.configured G.Answers self.old.place result gate.old gate.new }
     {
-        match mem::replace(&mut self.place, Place::Idle) {
-            Place::Idle => plan(alloc, gate, Aim::Merging, &mut self.place),
-            Place::Fetching(work) => self.work_on(alloc, gate, work),
-            Place::Staged(plan, staged, bytes) => {
+        match mem::replace(&mut self.place, WorkerPlace::Idle) {
+            WorkerPlace::Idle => plan(alloc, gate, Aim::Merging, &mut self.place),
+            WorkerPlace::Fetching(work) => self.work_on(alloc, gate, work),
+            WorkerPlace::Staged(plan, staged, bytes) => {
                 upload(alloc, gate, &mut self.place, plan, staged, &bytes)
             }
-            Place::Uploaded(plan, uploaded) => replace_rows(alloc, gate, &plan, uploaded, 0),
+            WorkerPlace::Uploaded(plan, uploaded) => replace_rows(alloc, gate, &plan, uploaded, 0),
         }
     }
 }

@@ -17,12 +17,12 @@ ghost use Rattle.index_world.specs.Gate.{IsSoundCore};
 ghost use Rattle.index_world.specs.World.{GoesOn};
 ghost use Rattle.upkeep_run.specs.Losing.{CanRaise, CanReplace, LosesUnless};
 ghost use Rattle.upkeep_run.specs.Outcomes.{Nothing};
-ghost use Rattle.upkeep_run.specs.Places.{Held, IsUploadedHeld, IsWork, Place, Work, fetching, idle, number_held, uploaded};
+ghost use Rattle.upkeep_run.specs.Places.{WorkerHeld, IsUploadedHeld, IsWork, WorkerPlace, Work, fetching, idle, number_held, uploaded};
 ghost use Rattle.upkeep_run.specs.Standing.{PlaceStands};
 ghost use Rattle.upkeep_run.specs.Steps.{WorkerLuck, drops_none, first_number, rows_in, step_worker};
 ghost use Rattle.upkeep_run.specs.declared.work.Aim.{Aim};
 ghost use Rattle.upkeep_run.specs.declared.work.Aim.TheVariants.{Deleting, Merging};
-ghost use Rattle.upkeep_run.specs.declared.work.Place.{Place as HeldPlace};
+ghost use Rattle.upkeep_run.specs.declared.work.WorkerPlace.{WorkerPlace as HeldPlace};
 
 /// An idle worker has nothing to do exactly where its plan was made and has no row, and memory is there.
 pub fn nothing_is_exact()
@@ -39,14 +39,14 @@ pub fn nothing_is_exact()
 
 /// A worker stands for the same where others went on by a call about another number than the one that it holds.
 pub fn others_leave_it()
-    ensures { (aim : Aim) (core after : Core) (log : Log) (one : Option ℕ) (kept : HeldPlace) (place : Place) → GoesOn one core after → Legal reads (history after.history) →
+    ensures { (aim : Aim) (core after : Core) (log : Log) (one : Option ℕ) (kept : HeldPlace) (place : WorkerPlace) → GoesOn one core after → Legal reads (history after.history) →
         ((n : ℕ) → number_held place ≡ Some n → IsOther one n) → PlaceStands aim log core kept place → PlaceStands aim log after kept place }
 {}
 
 /// Planned rows are lost exactly where one of them isn't published or the own row isn't staged for a replacement: a step that replaces
 /// is Lost where the history that it came to has no such rows, and Replaced where the one before its entry has. So is one that raises.
 pub fn lost_is_exact()
-    ensures replaces { (aim : Aim) (luck : WorkerLuck) (log : Log) (core : Core) (held : Held) → let step = step_worker aim luck log (uploaded held) core in
+    ensures replaces { (aim : Aim) (luck : WorkerLuck) (log : Log) (core : Core) (held : WorkerHeld) → let step = step_worker aim luck log (uploaded held) core in
         IsUploadedHeld log core held → GoesOn (Some held.number) core step.core → IsSoundCore step.core log → LosesUnless (λ rows. CanReplace rows held.number held.old) step.outcome step.core }
     ensures raises { (luck : WorkerLuck) (log : Log) (core : Core) (work : Work) → let step = step_worker Deleting luck log (fetching work) core in
         work.unfetched ≡ [] → drops_none work core ≡ true → IsWork log core work → GoesOn None core step.core → IsSoundCore step.core log →

@@ -15,7 +15,7 @@ ghost use Rattle.index_world.specs.Gate.{IsTrouble, IsUnmade};
 ghost use Rattle.index_world.specs.Replacing.{IsRaisable, IsReplaceable, numbers_of};
 ghost use Rattle.upkeep_run.specs.Corrupting.{CorruptFetch, FetchedCorrupt};
 ghost use Rattle.upkeep_run.specs.Ending.{Ends, EndsFetch, EndsPlan, EndsRaise, EndsReplace, EndsStage, EndsUpload, JudgesFile, TellsJudged, fault_said, lost_said, number_at, rejected_by, rejected_said, unasked_said, unmerged_said, unstaged_said, with_file};
-ghost use Rattle.upkeep_run.specs.Places.{Held, IsPlannedFor, IsStagedHeld, IsUploadedHeld, IsWork, Work as Planned, fetching, held_file, idle, staged as staged_at, uploaded as uploaded_at};
+ghost use Rattle.upkeep_run.specs.Places.{WorkerHeld, IsPlannedFor, IsStagedHeld, IsUploadedHeld, IsWork, Work as Planned, fetching, held_file, idle, staged as staged_at, uploaded as uploaded_at};
 ghost use Rattle.upkeep_run.specs.Standing.{Answers, HoldsNone, HoldsOwn, PlanHolds, Raises, Stages, StepsAs, WorkStands};
 ghost use Rattle.upkeep_run.specs.declared.work.Aim.{Aim};
 ghost use Rattle.upkeep_run.specs.Steps.{choice_of, lost_outcome, stage_outcome, trouble_outcome};
@@ -54,7 +54,7 @@ pub(crate) struct Work {
 
 /// Where a worker is.
 #[derive(Drop)]
-pub(crate) enum Place {
+pub(crate) enum WorkerPlace {
     Idle,
     Fetching(Work),
     /// The row that is to replace those of the plan, and its file.
@@ -63,7 +63,7 @@ pub(crate) enum Place {
 }
 
 /// Puts a worker there, and lets go of what it held.
-pub(crate) fn put(place: &mut Place, next: Place)
+pub(crate) fn put(place: &mut WorkerPlace, next: WorkerPlace)
     ensures { place.new ≡ next }
 {
     let before = mem::replace(place, next);
@@ -214,9 +214,9 @@ pub(crate) fn plan<G: Gate>(
     alloc: Global,
     gate: &mut G,
     aim: Aim,
-    place: &mut Place,
+    place: &mut WorkerPlace,
 ) -> Result<UpkeepOutcome, AllocError>
-    requires { place.old ≡ Place.Idle }
+    requires { place.old ≡ WorkerPlace.Idle }
     ensures later { G.since gate.old gate.new }
     ensures owns { HoldsOwn G.Owns gate.new place.new }
     ensures same { G.bytes_fetched gate.new ≡ G.bytes_fetched gate.old }
@@ -238,7 +238,7 @@ pub(crate) fn plan<G: Gate>(
             let files = List::vacant(alloc);
             put(
                 place,
-                Place::Fetching(Work {
+                WorkerPlace::Fetching(Work {
                     plan,
                     next: 0,
                     files,
@@ -267,8 +267,8 @@ fn with_file(mut work: Work, bytes: Bytes) -> Result<Work, AllocError>
 }
 
 // The file of the next row was fetched: it is taken, or isn't what the row says.
-fn taken(place: &mut Place, work: Work, bytes: Bytes) -> Result<UpkeepOutcome, AllocError>
-    requires place { place.old ≡ Place.Idle }
+fn taken(place: &mut WorkerPlace, work: Work, bytes: Bytes) -> Result<UpkeepOutcome, AllocError>
+    requires place { place.old ≡ WorkerPlace.Idle }
     requires next { work.next < length work.plan.rows }
     ensures none { HoldsNone place.new }
     ensures ends { (row : Row) → slice_get work.plan.rows work.next ≡ Some row → Ends (JudgesFile row work bytes) result place.new }
@@ -284,7 +284,7 @@ fn taken(place: &mut Place, work: Work, bytes: Bytes) -> Result<UpkeepOutcome, A
         return Ok(corrupt(split_key(number)));
     }
     let work = with_file(work, bytes)?;
-    put(place, Place::Fetching(work));
+    put(place, WorkerPlace::Fetching(work));
     Ok(UpkeepOutcome::Fetched { number })
 }
 
@@ -292,10 +292,10 @@ fn taken(place: &mut Place, work: Work, bytes: Bytes) -> Result<UpkeepOutcome, A
 pub(crate) fn fetch<G: Gate>(
     alloc: Global,
     gate: &mut G,
-    place: &mut Place,
+    place: &mut WorkerPlace,
     work: Work,
 ) -> Result<UpkeepOutcome, AllocError>
-    requires place { place.old ≡ Place.Idle }
+    requires place { place.old ≡ WorkerPlace.Idle }
     requires next { work.next < length work.plan.rows }
     ensures later { G.since gate.old gate.new }
     ensures owns { HoldsOwn G.Owns gate.new place.new }
@@ -319,11 +319,11 @@ pub(crate) fn fetch<G: Gate>(
 pub(crate) fn stage<G: Gate>(
     alloc: Global,
     gate: &mut G,
-    place: &mut Place,
+    place: &mut WorkerPlace,
     plan: Plan,
     split: BuiltSplit,
 ) -> Result<UpkeepOutcome, AllocError>
-    requires place { place.old ≡ Place.Idle }
+    requires place { place.old ≡ WorkerPlace.Idle }
     requires can { CanSpellFacts split.facts }
     ensures later { G.since gate.old gate.new }
     ensures owns { HoldsOwn G.Owns gate.new place.new }
@@ -341,7 +341,7 @@ pub(crate) fn stage<G: Gate>(
     match staged {
         Ok(staged) => {
             let number = staged.number;
-            put(place, Place::Staged(plan, staged, bytes));
+            put(place, WorkerPlace::Staged(plan, staged, bytes));
             Ok(UpkeepOutcome::Staged { number })
         }
         Err(error) => {
@@ -356,12 +356,12 @@ pub(crate) fn stage<G: Gate>(
 pub(crate) fn upload<G: Gate>(
     alloc: Global,
     gate: &mut G,
-    place: &mut Place,
+    place: &mut WorkerPlace,
     plan: Plan,
     staged: Staged,
     bytes: &SplitBytes,
 ) -> Result<UpkeepOutcome, AllocError>
-    requires place { place.old ≡ Place.Idle }
+    requires place { place.old ≡ WorkerPlace.Idle }
     requires owned { G.Owns gate.old staged.number }
     requires begun { (log : Log) → G.Begins gate.old log → (core : Core) × G.Stands gate.old core log × IsUnusedIn core staged.number }
     ensures later { G.since gate.old gate.new }
@@ -369,13 +369,13 @@ pub(crate) fn upload<G: Gate>(
     ensures same { G.bytes_fetched gate.new ≡ G.bytes_fetched gate.old }
     // Whatever the gate tells.
     ensures ends { Ends (EndsUpload (λ call. G.Answers gate.old call gate.new) plan staged.number bytes.now (G.told gate.old) (G.told gate.new)) result place.new }
-    ensures step { (aim : Aim) (core : Core) (log : Log) (held : Held) → G.Stands gate.old core log → PlanHolds aim plan held → staged.number ≡ held.number → bytes.now ≡ held_file held → IsStagedHeld log core held →
+    ensures step { (aim : Aim) (core : Core) (log : Log) (held : WorkerHeld) → G.Stands gate.old core log → PlanHolds aim plan held → staged.number ≡ held.number → bytes.now ≡ held_file held → IsStagedHeld log core held →
         StepsAs G.Stands G.Between G.Owns G.Adds aim result (staged_at held) core log place.new gate.old gate.new }
 {
     let number = staged.number;
     match gate.upload(alloc, staged, bytes.as_slice()) {
         Ok(uploaded) => {
-            put(place, Place::Uploaded(plan, uploaded));
+            put(place, WorkerPlace::Uploaded(plan, uploaded));
             Ok(UpkeepOutcome::Uploaded { number })
         }
         Err(error) => {
@@ -397,9 +397,9 @@ pub(crate) fn replace_rows<G: Gate>(
     ensures later { G.since gate.old gate.new }
     ensures same { G.bytes_fetched gate.new ≡ G.bytes_fetched gate.old }
     // Whatever the gate tells.
-    ensures ends { Ends (EndsReplace upto (λ call. G.Answers gate.old call gate.new) plan.now uploaded.number) result Place.Idle }
-    ensures step { (aim : Aim) (core : Core) (log : Log) (held : Held) → G.Stands gate.old core log → PlanHolds aim plan.now held → upto ≡ held.upto → uploaded.number ≡ held.number → IsUploadedHeld log core held →
-        StepsAs G.Stands G.Between G.Owns G.Adds aim result (uploaded_at held) core log Place.Idle gate.old gate.new }
+    ensures ends { Ends (EndsReplace upto (λ call. G.Answers gate.old call gate.new) plan.now uploaded.number) result WorkerPlace.Idle }
+    ensures step { (aim : Aim) (core : Core) (log : Log) (held : WorkerHeld) → G.Stands gate.old core log → PlanHolds aim plan.now held → upto ≡ held.upto → uploaded.number ≡ held.number → IsUploadedHeld log core held →
+        StepsAs G.Stands G.Between G.Owns G.Adds aim result (uploaded_at held) core log WorkerPlace.Idle gate.old gate.new }
 {
     let number = uploaded.number;
     match gate.replace(alloc, plan, uploaded, upto) {
@@ -420,7 +420,7 @@ pub(crate) fn raise_row<G: Gate>(
     ensures later { G.since gate.old gate.new }
     ensures same { G.bytes_fetched gate.new ≡ G.bytes_fetched gate.old }
     // Whatever the gate tells.
-    ensures ends { Ends (EndsRaise (λ call. G.Answers gate.old call gate.new) plan.now number) result Place.Idle }
+    ensures ends { Ends (EndsRaise (λ call. G.Answers gate.old call gate.new) plan.now number) result WorkerPlace.Idle }
     ensures step { (core : Core) (log : Log) → G.Stands gate.old core log → IsRaisable core number plan.now.upto → Raises G.Stands G.Between G.Owns G.Adds number plan.now.upto result core log gate.old gate.new }
 {
     match gate.raise(alloc, plan, 0, plan.upto) {

@@ -7,7 +7,7 @@ use Rattle.index_world.specs.Replacing.{IsRaisable}
 use Rattle.meta_store.specs.declared.planning.PlanRow.{PlanRow}
 use Rattle.upkeep_run.specs.Ending.{EndsRaise}
 use Rattle.upkeep_run.specs.declared.outcome.UpkeepOutcome.{UpkeepOutcome as Said}
-use Rattle.upkeep_run.specs.declared.work.Place.TheVariants as places
+use Rattle.upkeep_run.specs.declared.work.WorkerPlace.TheVariants as places
 use Rattle.upkeep_run.proofs.Ended.{ends_by}
 use Rattle.upkeep_run.proofs.Judged.{same_row}
 use Rattle.upkeep_run.proofs.DropLeaves.{within_first}

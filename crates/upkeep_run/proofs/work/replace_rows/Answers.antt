@@ -3,7 +3,7 @@ use Rattle.index_world.specs.Answering.{Answered}
 use Rattle.index_world.specs.Replacing.{numbers_of}
 use Rattle.upkeep_run.specs.Ending.{EndsReplace}
 use Rattle.upkeep_run.specs.declared.outcome.UpkeepOutcome.{UpkeepOutcome as Said}
-use Rattle.upkeep_run.specs.declared.work.Place.TheVariants as places
+use Rattle.upkeep_run.specs.declared.work.WorkerPlace.TheVariants as places
 use Rattle.upkeep_run.proofs.Ended.{ends_by}
 use Rattle.upkeep_run.proofs.Holding.{may_replace}
 use Rattle.upkeep_run.proofs.Stepping.{replaces, replace_fails}

@@ -6,7 +6,7 @@ use Rattle.upkeep_run.specs.Ending.{Told}
 use Rattle.upkeep_run.specs.Judging.{IsJudged}
 use Rattle.upkeep_run.specs.declared.outcome.UpkeepOutcome.{UpkeepOutcome as Said}
 use Rattle.upkeep_run.specs.declared.outcome.UpkeepOutcome.TheVariants as said
-use Rattle.upkeep_run.specs.declared.work.Place.TheVariants as places
+use Rattle.upkeep_run.specs.declared.work.WorkerPlace.TheVariants as places
 use Rattle.upkeep_run.specs.Corrupting.{HasOthers, IsOfOthers}
 use Rattle.upkeep_run.proofs.Corrupted.{refused_file, same_key, short_never, taken_file, told_fetched}
 use Rattle.upkeep_run.proofs.Judged.{both_true, not_both, same_row}

@@ -4,7 +4,7 @@ use Rattle.byte_fields.specs.Causes.{Rose}
 use Rattle.source_log.specs.Log.{IsToldLog}
 use Rattle.source_log.specs.declared.log.ReadError.TheVariants.{Failed}
 use Rattle.index_world.specs.Core.{last_count}
-use Rattle.indexing_run.specs.declared.indexer.Place.TheVariants as places
+use Rattle.indexing_run.specs.declared.indexer.IndexerPlace.TheVariants as places
 use Rattle.indexing_run.specs.Standing.{HoldsOwn}
 use Rattle.indexing_run.proofs.Stepping.{as_put, called_configured, idle_stays, no_answer}
 use Rattle.indexing_run.proofs.Reading.{reads_something, next_is, asked_of, log_read, log_stays, slice_is, reads_on, moment_fails, reads_fault, reads_short, reads_some}

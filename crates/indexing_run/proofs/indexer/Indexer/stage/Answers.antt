@@ -3,7 +3,7 @@ use Rattle.index_config.specs.declared.config.IndexConfig.{IndexConfig}
 use Rattle.index_world.specs.SplitFile.{file_of, facts_of}
 use Rattle.index_world.proofs.InHand.{number_apart}
 use Rattle.indexing_run.specs.Standing.{HoldsOwn}
-use Rattle.indexing_run.specs.declared.indexer.Place.TheVariants as places
+use Rattle.indexing_run.specs.declared.indexer.IndexerPlace.TheVariants as places
 use Rattle.indexing_run.proofs.Reading.{target_ranges}
 use Rattle.indexing_run.proofs.Stepping.{as_put, staged_facts, built_splits, stage_short, stages, stage_fails, no_answer}
 use Rattle.indexing_run.proofs.Holding.{own_later}

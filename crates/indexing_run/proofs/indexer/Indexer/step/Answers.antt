@@ -5,7 +5,7 @@ use Rattle.indexing_run.proofs.Stepping.{set_idle, as_placed}
 use Rattle.indexing_run.proofs.Holding.{held_is_publishable}
 use Rattle.index_world.specs.Core.{IsUnusedIn}
 use Rattle.index_world.specs.Gate.{IsPublishable}
-use Rattle.indexing_run.specs.declared.indexer.Place.TheVariants as places
+use Rattle.indexing_run.specs.declared.indexer.IndexerPlace.TheVariants as places
 use Rattle.indexing_run.proofs.Ended.{ends_from}
 use Rattle.indexing_run.proofs.indexer.Indexer.step.Goals as goal
 

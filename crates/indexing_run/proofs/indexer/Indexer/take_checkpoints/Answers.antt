@@ -7,7 +7,7 @@ use Rattle.doc_value.specs.Documents.{IsSchema}
 use Rattle.index_config.specs.declared.config.IndexConfig.{IndexConfig}
 use Rattle.index_world.specs.Core.{last_count, IsConfigured}
 use Rattle.indexing_run.specs.Places.{idle}
-use Rattle.indexing_run.specs.declared.indexer.Place.TheVariants as places
+use Rattle.indexing_run.specs.declared.indexer.IndexerPlace.TheVariants as places
 use Rattle.indexing_run.specs.Standing.{PlaceStands, HoldsOwn}
 use Rattle.indexing_run.proofs.Stepping.{as_put, idle_stays, no_answer}
 use Rattle.indexing_run.proofs.Reading.{names_later, names_as, names_failed, names_short, names_fault, marks_fail, marks_short, begins}

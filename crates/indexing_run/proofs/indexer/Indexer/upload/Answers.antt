@@ -1,7 +1,7 @@
 use Rattle.std.proofs.Common.{◌∙◌, sym, subst, List, ℕ, ap, Ok, Err}
 use Rattle.index_world.specs.Core.{IsUnusedIn}
 use Rattle.indexing_run.specs.Standing.{HoldsOwn}
-use Rattle.indexing_run.specs.declared.indexer.Place.TheVariants as places
+use Rattle.indexing_run.specs.declared.indexer.IndexerPlace.TheVariants as places
 use Rattle.indexing_run.proofs.Stepping.{as_put, uploads, upload_fails}
 use Rattle.indexing_run.proofs.Holding.{own_later}
 use Rattle.meta_journal.specs.Places.{split_key}

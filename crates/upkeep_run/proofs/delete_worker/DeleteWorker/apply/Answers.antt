@@ -5,12 +5,12 @@ use Rattle.upkeep_run.specs.Places.{fetching}
 use Rattle.upkeep_run.specs.Standing.{StepsAs}
 use Rattle.upkeep_run.specs.Ending.{Ends, EndsRaise}
 use Rattle.upkeep_run.specs.declared.work.Aim.TheVariants.{Deleting}
-use Rattle.upkeep_run.specs.declared.work.Place.{Place as HeldPlace}
+use Rattle.upkeep_run.specs.declared.work.WorkerPlace.{WorkerPlace as HeldPlace}
 use Rattle.upkeep_run.proofs.DropLeaves.{no_items, some_items}
 use Rattle.upkeep_run.proofs.Judged.{same_row}
 use Rattle.upkeep_run.proofs.Leaving.{left_ends, number_is, raisable_as, raised_ends, raises}
 use Rattle.upkeep_run.proofs.Told.{lost_answers}
-use Rattle.upkeep_run.specs.declared.work.Place.TheVariants as places
+use Rattle.upkeep_run.specs.declared.work.WorkerPlace.TheVariants as places
 use Rattle.upkeep_run.proofs.Corrupted.{raise_gives}
 use Rattle.upkeep_run.proofs.delete_worker.DeleteWorker.apply.Goals as goal
 

@@ -2,11 +2,11 @@ use Rattle.std.proofs.Common.{◌∙◌, sym, subst}
 use Rattle.index_world.specs.Answering.{Answered}
 use Rattle.index_world.specs.Core.{IsUnusedIn}
 use Rattle.upkeep_run.specs.Ending.{Ends, EndsReplace}
-use Rattle.upkeep_run.specs.Places.{Place}
+use Rattle.upkeep_run.specs.Places.{WorkerPlace}
 use Rattle.upkeep_run.specs.Standing.{HoldsOwn, PlaceStands, StepsAs}
 use Rattle.upkeep_run.specs.declared.work.Aim.TheVariants.{Merging}
-use Rattle.upkeep_run.specs.declared.work.Place.{Place as HeldPlace}
-use Rattle.upkeep_run.specs.declared.work.Place.TheVariants as places
+use Rattle.upkeep_run.specs.declared.work.WorkerPlace.{WorkerPlace as HeldPlace}
+use Rattle.upkeep_run.specs.declared.work.WorkerPlace.TheVariants as places
 use Rattle.upkeep_run.proofs.Corrupted.{corrupt_from, plan_gives, replace_gives, upload_gives}
 use Rattle.upkeep_run.proofs.Ended.{ends_from}
 use Rattle.upkeep_run.proofs.Holding.{idle_owns, may_replace}
@@ -15,23 +15,23 @@ use Rattle.upkeep_run.proofs.merger.Merger.step.Goals as goal
 pub returns-in-Idle-clause-step : goal.returns-in-Idle-clause-step
 returns-in-Idle-clause-step g c = λ place core log is s stands.
     let at = subst (λ k. PlaceStands Merging log core k place) (sym c.replace.ensures.value ∙ c.in-Idle.is) s in
-    subst (λ (p : Place). StepsAs g.G.Gate.Stands g.G.Gate.Between g.G.Gate.Owns g.G.Gate.Adds Merging c.plan.result p core log c.plan.new.place c.args.gate.now c.plan.new.gate) (sym at) (c.plan.ensures.step core log stands)
+    subst (λ (p : WorkerPlace). StepsAs g.G.Gate.Stands g.G.Gate.Between g.G.Gate.Owns g.G.Gate.Adds Merging c.plan.result p core log c.plan.new.place c.args.gate.now c.plan.new.gate) (sym at) (c.plan.ensures.step core log stands)
 
 pub returns-in-Fetching-clause-step : goal.returns-in-Fetching-clause-step
 returns-in-Fetching-clause-step g c = λ place core log is s stands.
     let at = subst (λ k. PlaceStands Merging log core k place) (sym c.replace.ensures.value ∙ c.in-Fetching.is) s in
-    subst (λ (p : Place). StepsAs g.G.Gate.Stands g.G.Gate.Between g.G.Gate.Owns g.G.Gate.Adds Merging c.work_on.result p core log c.work_on.new.self.place c.args.gate.now c.work_on.new.gate) (sym at.1) (c.work_on.ensures.step core log at.0 is stands at.2 at.3 at.4)
+    subst (λ (p : WorkerPlace). StepsAs g.G.Gate.Stands g.G.Gate.Between g.G.Gate.Owns g.G.Gate.Adds Merging c.work_on.result p core log c.work_on.new.self.place c.args.gate.now c.work_on.new.gate) (sym at.1) (c.work_on.ensures.step core log at.0 is stands at.2 at.3 at.4)
 
 pub returns-in-Staged-clause-step : goal.returns-in-Staged-clause-step
 returns-in-Staged-clause-step g c = λ place core log is s stands.
     let at = subst (λ k. PlaceStands Merging log core k place) (sym c.replace.ensures.value ∙ c.in-Staged.is) s in
-    subst (λ (p : Place). StepsAs g.G.Gate.Stands g.G.Gate.Between g.G.Gate.Owns g.G.Gate.Adds Merging c.upload.result p core log c.upload.new.place c.args.gate.now c.upload.new.gate) (sym at.1) (c.upload.ensures.step Merging core log at.0 stands at.2 at.3 at.4 at.5)
+    subst (λ (p : WorkerPlace). StepsAs g.G.Gate.Stands g.G.Gate.Between g.G.Gate.Owns g.G.Gate.Adds Merging c.upload.result p core log c.upload.new.place c.args.gate.now c.upload.new.gate) (sym at.1) (c.upload.ensures.step Merging core log at.0 stands at.2 at.3 at.4 at.5)
 
 pub returns-in-Uploaded-clause-step : goal.returns-in-Uploaded-clause-step
 returns-in-Uploaded-clause-step g c = λ place core log is s stands.
     let at = subst (λ k. PlaceStands Merging log core k place) (sym c.replace.ensures.value ∙ c.in-Uploaded.is) s in
     subst (λ (k : HeldPlace). StepsAs g.G.Gate.Stands g.G.Gate.Between g.G.Gate.Owns g.G.Gate.Adds Merging c.replace_rows.result place core log k c.args.gate.now c.replace_rows.new.gate) (sym c.replace.ensures.after)
-    (subst (λ (p : Place). StepsAs g.G.Gate.Stands g.G.Gate.Between g.G.Gate.Owns g.G.Gate.Adds Merging c.replace_rows.result p core log places.Idle c.args.gate.now c.replace_rows.new.gate) (sym at.1) (c.replace_rows.ensures.step Merging core log at.0 stands at.2 at.2.upto at.3 at.4))
+    (subst (λ (p : WorkerPlace). StepsAs g.G.Gate.Stands g.G.Gate.Between g.G.Gate.Owns g.G.Gate.Adds Merging c.replace_rows.result p core log places.Idle c.args.gate.now c.replace_rows.new.gate) (sym at.1) (c.replace_rows.ensures.step Merging core log at.0 stands at.2 at.2.upto at.3 at.4))
 
 pub returns-in-Uploaded-clause-owns : goal.returns-in-Uploaded-clause-owns
 returns-in-Uploaded-clause-owns g c = idle_owns g.G.Gate.Owns c.replace_rows.new.gate c.replace.new.dest c.replace.ensures.after
