@@ -7,7 +7,8 @@
 //! `>` is a line of the input, and `<` one that must be written; `>>` and `<<` are the same without a line feed; `config` is the
 //! configuration of an index, behind a line of its own if there is one. `clients` starts so many clients anew, and `deletes` lets
 //! one delete so often, with what is written. `run` does the command with this input, and compares what was written, the status,
-//! and the counts of faults; what stands then is the store of a second life.
+//! and the counts of faults; what stands then is the store of a second life. `size` says how many bytes an object has, and `bytes`
+//! which, in digits.
 
 pub const ROWS: &str = r#"row two hits
 log

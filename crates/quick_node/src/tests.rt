@@ -145,6 +145,7 @@ impl Row {
         match asked {
             "run" => self.run(rt, alloc, rest),
             "size" => self.has_size(alloc, rest),
+            "bytes" => self.has_bytes(alloc, rest),
             _ => {
                 self.prepare(alloc, asked, rest)?;
                 Ok(true)
@@ -158,6 +159,14 @@ impl Row {
         let size = number_of(size)?;
         let piece = self.store.get(alloc, &key_of(key)?, 0, 1000)?;
         Ok(piece.size == size)
+    }
+
+    // Whether an object has these bytes, which are given in digits.
+    fn has_bytes(&mut self, alloc: Global, rest: &str) -> Result<bool, Fail> {
+        let (wanted, key) = halves(rest);
+        let piece = self.store.get(alloc, &key_of(key)?, 0, 1000)?;
+        let found = digits_of(alloc, piece.bytes.as_slice())?;
+        Ok(found.as_str() == wanted)
     }
 
     // What a line says of what stands.
@@ -407,6 +416,16 @@ fn key_of(text: &str) -> Result<Key, Fail> {
     Ok(Key::from_text(text)?)
 }
 
+// Each byte in two digits of base 16.
+fn digits_of(alloc: Global, bytes: &[u8]) -> Result<String, AllocError> {
+    let mut digits = String::new(alloc);
+    for byte in bytes {
+        let two = format!(in alloc; "{byte:02x}")?;
+        digits.push_str(two.as_str())?;
+    }
+    Ok(digits)
+}
+
 fn number_of(text: &str) -> Result<u64, Fail> {
     Ok(text.parse::<u64>()?)
 }
@@ -574,7 +593,7 @@ fn rows_of_the_collector(rt: HostRuntime) -> Result<(), Fail> {
 
 #[test]
 fn rows_of_the_merger(rt: HostRuntime) -> Result<(), Fail> {
-    do_rows(&rt, rt.alloc(), MERGER_ROWS, 11)
+    do_rows(&rt, rt.alloc(), MERGER_ROWS, 18)
 }
 
 #[test]
