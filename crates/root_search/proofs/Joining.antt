@@ -23,6 +23,7 @@ use Rattle.leaf_search.proofs.Suffices.{held_memory}
 use Rattle.root_search.specs.Leaves.{AllJoined, AreJoined, AreSomeOf, FailsFirst, HasAsked, HasCauseIn, IsCounted, IsFaultIn, IsFull, IsJoinOf, IsLeafAnswer, IsNoLeaf, IsRefusedIn, IsViewOf, IsWholeViewOf, LeafGives, WantsMemory, all_hits, all_of, all_ok, count_in, placed_fault}
 use Rattle.root_search.specs.declared.splits_error.JoinFault.{JoinFault}
 use Rattle.root_search.specs.declared.splits_error.JoinFault.TheVariants.{Corrupt, Memory, Missing, TooMany}
+use Rattle.root_search.proofs.ShareJoins.{whole_give, whole_joined, whole_shares}
 
 -- ---- one more of a list
 
@@ -410,7 +411,7 @@ all_searched s r views lists answers (Err e) leaves ok err are few asked = fault
 
 -- ---- whole files
 
-whole_views : (s : Schema) (views : List PartView) (lists : List (List Placed)) → AllZip (IsWholeViewOf s) views lists → AllZip (IsViewOf s) views lists
+pub whole_views : (s : Schema) (views : List PartView) (lists : List (List Placed)) → AllZip (IsWholeViewOf s) views lists → AllZip (IsViewOf s) views lists
 whole_views s [] [] are = tt
 whole_views s [] (ds ∷ lists) are = absurd are
 whole_views s (v ∷ views) [] are = absurd are
@@ -445,7 +446,7 @@ whole_searched s r views lists answers (Err e) leaves ok err are few asked = who
 
 -- ---- views that have what is asked for
 
-asked_views : (s : Schema) (r : LeafRequest) (views : List PartView) (lists : List (List Placed)) → AllZip (HasAsked s r) views lists → AllZip (IsViewOf s) views lists
+pub asked_views : (s : Schema) (r : LeafRequest) (views : List PartView) (lists : List (List Placed)) → AllZip (HasAsked s r) views lists → AllZip (IsViewOf s) views lists
 asked_views s r [] [] are = tt
 asked_views s r [] (ds ∷ lists) are = absurd are
 asked_views s r (v ∷ views) [] are = absurd are
@@ -533,5 +534,6 @@ all_give s r (v ∷ views) (a ∷ given) h = (h.0, all_give s r views given h.1)
 
 pub join_of : (s : Schema) (r : LeafRequest) (views : List PartView) (answers : List (Result LeafAnswer LeafError)) (result : Result LeafAnswer JoinFault) → AllZip (IsLeafAnswer s r) views answers → IfOk result (AllJoined r answers) → IfOk result (IsJoinOf s r views)
 join_of s r views answers (Ok all) leaves h =
-    record { answers = h.0; are_leaves = all_give s r views h.0 (subst (λ (l : List (Result LeafAnswer LeafError)). AllZip (IsLeafAnswer s r) views l) h.1 leaves); joined = h.2 }
+    let give = all_give s r views h.0 (subst (λ (l : List (Result LeafAnswer LeafError)). AllZip (IsLeafAnswer s r) views l) h.1 leaves) in
+    record { shares = whole_shares r h.0; are_leaves = whole_give s r views h.0 give; joined = whole_joined r h.0 all h.2 }
 join_of s r views answers (Err e) leaves h = tt

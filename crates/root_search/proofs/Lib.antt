@@ -4,6 +4,8 @@ pub mod LeafRequests
 pub mod Orderless
 pub mod Counting
 pub mod Showing
+pub mod ShareHits
+pub mod ShareJoins
 pub mod Joining
 pub mod Wholes
 pub mod Zipped

@@ -5,6 +5,7 @@ pub mod Examples
 pub mod Places
 pub mod LeafAsks
 pub mod Intervals
+pub mod Shares
 pub mod Leaves
 pub mod FetchedSplits
 pub mod PartAnswers

@@ -23,12 +23,13 @@ use Rattle.search_api.specs.declared.reply.Said.{Said}
 use Rattle.search_api.specs.declared.reply.Said.TheVariants.{Found, Deleted, Refused}
 use Rattle.search_api.specs.declared.unanswered.Unanswered.TheVariants as reasons
 use Rattle.root_search.specs.Answer.{printed}
-use Rattle.root_search.specs.Leaves.{AreJoined, IsLeafAnswer, all_of}
+use Rattle.root_search.specs.Leaves.{AreSharesJoined, GivesShare, IsLeafAnswer, all_of}
 use Rattle.root_search.specs.Places.{OneAtEach}
 use Rattle.root_search.specs.FetchedSplits.{HasNeeded, IsLentOf}
 use Rattle.root_search.specs.declared.leaf_asks.LeafAsk.{LeafAsk}
 use Rattle.root_search.specs.declared.part_answers.PartError.{PartError}
 use Rattle.root_search.specs.declared.part_answers.PartError.TheVariants.{Memory, Corrupt}
+use Rattle.root_search.specs.declared.shares.SplitShare.{SplitShare}
 use Rattle.root_search.specs.declared.split_parts.FetchedPieces.{FetchedPieces}
 use Rattle.root_search.specs.declared.split_parts.FetchedSplit.{FetchedSplit}
 use Rattle.root_search.specs.declared.splits_error.JoinFault.{JoinFault}
@@ -63,11 +64,17 @@ pub record LeafOver (s : Schema) (r : LeafRequest) (part : FetchedSplit) (answer
 abbrev pub PartGives : Schema → LeafRequest → FetchedSplit → LeafAnswer → Type 0
 PartGives s r part answer = LeafOver s r part (Ok answer)
 
+-- the leaf over what was kept of a split answered with a share
+pub record PartShare (s : Schema) (r : LeafRequest) (part : FetchedSplit) (share : SplitShare) : Type 0 where
+  pub view : PartView
+  pub lends : IsViewOfPart part view
+  pub gives : GivesShare s r view share
+
 -- The leaf over each part answered, and their answers are joined.
 pub record AreAnswered (s : Schema) (r : LeafRequest) (parts : List FetchedSplit) (all : LeafAnswer) : Type 0 where
-  pub answers : List LeafAnswer
-  pub are_leaves : AllZip (PartGives s r) parts answers
-  pub joined : AreJoined r answers all
+  pub shares : List SplitShare
+  pub are_leaves : AllZip (PartShare s r) parts shares
+  pub joined : AreSharesJoined r shares all
 
 -- The leaf over what was kept of the split with a number met a fault that is not want of memory, and none before it did. What was kept is not
 -- what the request needs of a split, of whatever documents.

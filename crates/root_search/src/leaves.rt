@@ -1,22 +1,26 @@
 //! The answer over many splits.
 
-ghost use Rattle.std.specs.Prelude.{◌≡◌, ◌+◌, ◌^◌, ◌<◌, ◌≤◌, ◌++◌, ◌∷◌, [], List, length, Some, Err, IfErr, IfOk, MatchResult};
+ghost use Rattle.std.specs.Prelude.{◌≡◌, ◌+◌, ◌^◌, ◌<◌, ◌≤◌, ◌++◌, ◌∷◌, [], List, length, Some, Err, IfErr, IfOk, IfSome, MatchResult};
 ghost use Rattle.std.specs.List.{All, AllZip};
 ghost use Rattle.doc_value.specs.declared.schema.Schema.{Schema};
 ghost use Rattle.agg_nested.specs.Checking.{HaveSteps};
 ghost use Rattle.split_bundle.specs.declared.placed.Placed.{Placed};
 ghost use Rattle.leaf_search.specs.Answers.{IsAnswerOf, IsAsked};
-ghost use Rattle.root_search.specs.Leaves.{AllJoined, AreJoined, HasAsked, HasCauseIn, IsCounted, IsFaultIn, IsFull, IsJoinOf, IsLeafAnswer, IsRefusedIn, IsViewOf, IsWholeViewOf, WantsMemory, all_of, placed_fault};
+ghost use Rattle.root_search.specs.Shares.{AreEnough};
+ghost use Rattle.root_search.specs.Leaves.{AllJoined, AreJoined, AsksAlike, GivesShare, HasAsked, HasCauseIn, IsCounted, IsFaultIn, IsFull, IsJoinOf, IsLeafAnswer, IsRefusedIn, IsShareOf, IsViewOf, IsWholeViewOf, WantsMemory, all_of, all_ok, answers_in, placed_fault};
 
 use crate::joins::merged;
+use crate::shares::{SplitShare, SplitShares, open_share, share_of};
 use crate::splits_error::JoinFault;
 use agg_nested::vacant_nested;
-use doc_value::Schema;
+use doc_value::{Replica, Schema};
 use leaf_search::{LeafAnswer, LeafError, LeafRequest, leaf};
+use query_ast::copy_query;
 use rayon::prelude::*;
 use split_bundle::{PartView, PlacedList};
 use std::alloc::{AllocError, Global};
 use std::collections::VecDeque;
+use std::mem;
 use std::thread::Threads;
 
 /// How splits are asked: one after the other in this thread, or in as many threads as there are processors.
@@ -179,6 +183,193 @@ fn answers_of<Rt: Threads + Sync>(
     }
 }
 
+// What splits answer to a request together, where each is asked for as many hits as are wanted of all.
+fn search_whole<Rt: Threads + Sync>(
+    rt: &Rt,
+    alloc: Global,
+    manner: Threading,
+    schema: &Schema,
+    request: &LeafRequest,
+    views: &[PartView<'_>],
+) -> Result<LeafAnswer, JoinFault>
+    requires fields { length schema.now.fields ≤ 256 }
+    requires intervals { HaveSteps request.now.aggs }
+    // Of splits of documents, of which there are fewer than 2^62 together.
+    ensures only { (lists : List (List Placed)) → AllZip (IsViewOf schema.now) views.now lists → length (all_of lists) < 2 ^ 62 → IsAsked schema.now request.now
+        → MatchResult result (IsAnswerOf schema.now request.now (all_of lists)) (HasCauseIn schema.now request.now views.now lists) }
+    // Where each view has what the request asks for.
+    ensures asked { (lists : List (List Placed)) → AllZip (HasAsked schema.now request.now) views.now lists → length (all_of lists) < 2 ^ 62 → IsAsked schema.now request.now
+        → MatchResult result (IsAnswerOf schema.now request.now (all_of lists)) WantsMemory }
+    // Where each view has its whole file.
+    ensures there { (lists : List (List Placed)) → AllZip (IsWholeViewOf schema.now) views.now lists → length (all_of lists) < 2 ^ 62 → IsAsked schema.now request.now
+        → MatchResult result (IsAnswerOf schema.now request.now (all_of lists)) WantsMemory }
+    // Over any bytes.
+    ensures counted { IfOk result (IsCounted request.now) }
+    // Over any bytes: there is an answer only where each split has one, and it is these, joined; and a split is refused only where its view is none of
+    // a split, the first.
+    ensures each { IfOk result (IsJoinOf schema.now request.now views.now) }
+    ensures refused { IfErr result (IsRefusedIn schema.now request.now views.now) }
+{
+    let answers = answers_of(rt, alloc, manner, schema, request, views)?;
+    joined(alloc, request, answers)
+}
+
+// The request, where so many hits are wanted.
+fn asking(alloc: Global, request: &LeafRequest, wanted: usize) -> Result<LeafRequest, AllocError>
+    ensures alike { IfOk result (AsksAlike request.now) }
+    ensures wanted { IfOk result (λ asked. asked.wanted ≡ wanted) }
+{
+    Ok(LeafRequest {
+        query: copy_query(alloc, &request.query)?,
+        times: request.times,
+        order: request.order,
+        wanted,
+        aggs: request.aggs.copy(alloc)?,
+    })
+}
+
+// Answers, of each of which so many hits are wanted, if there is a fault in none.
+fn shares_of(
+    alloc: Global,
+    wanted: usize,
+    answers: LeafAnswers,
+) -> Result<Option<SplitShares>, AllocError>
+    ensures { IfOk result (λ o. IfSome o (AllZip (IsShareOf wanted) answers.items)) }
+{
+    let mut left = VecDeque::from_vec(answers);
+    let mut shares = SplitShares::vacant(alloc);
+    while let Some(answer) = left.pop_front() {
+        match answer {
+            Ok(answer) => shares.push(SplitShare { wanted, answer })?,
+            Err(_) => return Ok(None),
+        }
+    }
+    Ok(Some(shares))
+}
+
+// Asks the split at a place for as many hits as are wanted of all, and says whether it answered.
+fn ask_again(
+    alloc: Global,
+    schema: &Schema,
+    request: &LeafRequest,
+    views: &[PartView<'_>],
+    place: usize,
+    shares: &mut SplitShares,
+) -> bool
+    requires fields { length schema.now.fields ≤ 256 }
+    requires intervals { HaveSteps request.now.aggs }
+    ensures { AllZip (GivesShare schema.now request.now) views.now shares.old → AllZip (GivesShare schema.now request.now) views.now shares.new }
+{
+    let wanted = request.wanted;
+    match views.get(place) {
+        Some(view) if place < shares.len() => match leaf_of(alloc, schema, request, view) {
+            Ok(answer) => {
+                shares.set(place, SplitShare { wanted, answer });
+                true
+            }
+            Err(_) => false,
+        },
+        _ => false,
+    }
+}
+
+// So many splits are asked again at most.
+const AGAIN: usize = 4;
+
+// The shares, and of the splits of which more may be among the first hits as many as are wanted of all, if there are few such splits and none is at
+// fault. Those whose hits end first are asked again first, since what they have may show that the others are used up.
+fn enough_shares(
+    alloc: Global,
+    schema: &Schema,
+    request: &LeafRequest,
+    views: &[PartView<'_>],
+    shares: SplitShares,
+) -> Result<Option<SplitShares>, AllocError>
+    requires fields { length schema.now.fields ≤ 256 }
+    requires intervals { HaveSteps request.now.aggs }
+    requires shares { AllZip (GivesShare schema.now request.now) views.now shares }
+    ensures give { IfOk result (λ o. IfSome o (AllZip (GivesShare schema.now request.now) views.now)) }
+    ensures enough { IfOk result (λ o. IfSome o (AreEnough request.now.order request.now.wanted)) }
+{
+    let mut shares = shares;
+    for _ in 0..AGAIN {
+        match open_share(alloc, request.order, request.wanted, shares.as_slice())? {
+            None => return Ok(Some(shares)),
+            Some(place) => {
+                if !ask_again(alloc, schema, request, views, place, &mut shares) {
+                    return Ok(None);
+                }
+            }
+        }
+    }
+    match open_share(alloc, request.order, request.wanted, shares.as_slice())? {
+        None => Ok(Some(shares)),
+        Some(_) => Ok(None),
+    }
+}
+
+// The answers of some shares.
+fn answers_of_shares(alloc: Global, shares: SplitShares) -> Result<LeafAnswers, AllocError>
+    ensures { IfOk result (λ answers. answers.items ≡ all_ok (answers_in shares)) }
+{
+    let mut left = VecDeque::from_vec(shares.into_vec());
+    let mut answers = Vec::new(alloc);
+    while let Some(share) = left.pop_front() {
+        answers.push(Ok(share.answer))?;
+    }
+    Ok(answers)
+}
+
+// What each split answers, where so many hits are wanted of it, if none is at fault.
+fn first_shares<Rt: Threads + Sync>(
+    rt: &Rt,
+    alloc: Global,
+    manner: Threading,
+    schema: &Schema,
+    request: &LeafRequest,
+    views: &[PartView<'_>],
+    wanted: usize,
+) -> Result<Option<SplitShares>, AllocError>
+    requires fields { length schema.now.fields ≤ 256 }
+    requires intervals { HaveSteps request.now.aggs }
+    requires part { wanted ≤ request.now.wanted }
+    ensures { IfOk result (λ o. IfSome o (AllZip (GivesShare schema.now request.now) views.now)) }
+{
+    let asked = asking(alloc, request, wanted)?;
+    let answers = answers_of(rt, alloc, manner, schema, &asked, views);
+    mem::drop(asked);
+    shares_of(alloc, wanted, answers?)
+}
+
+// What splits answer to a request together, where each is asked for a share of the hits first, and for all that are wanted only where more of its may
+// be among the first. There is none where that is not enough, or one is at fault.
+fn search_shares<Rt: Threads + Sync>(
+    rt: &Rt,
+    alloc: Global,
+    manner: Threading,
+    schema: &Schema,
+    request: &LeafRequest,
+    views: &[PartView<'_>],
+    share: usize,
+) -> Result<Option<LeafAnswer>, AllocError>
+    requires fields { length schema.now.fields ≤ 256 }
+    requires intervals { HaveSteps request.now.aggs }
+    requires part { share ≤ request.now.wanted }
+    ensures counted { IfOk result (λ o. IfSome o (IsCounted request.now)) }
+    ensures each { IfOk result (λ o. IfSome o (IsJoinOf schema.now request.now views.now)) }
+{
+    let Some(shares) = first_shares(rt, alloc, manner, schema, request, views, share)? else {
+        return Ok(None);
+    };
+    let Some(shares) = enough_shares(alloc, schema, request, views, shares)? else {
+        return Ok(None);
+    };
+    match joined(alloc, request, answers_of_shares(alloc, shares)?) {
+        Ok(all) => Ok(Some(all)),
+        Err(_) => Ok(None),
+    }
+}
+
 /// What splits answer to a request together: the answer over the documents of the first one, then those of the second, and so on.
 /// In whatever manner they are asked, it is the same.
 pub(crate) fn search_all<Rt: Threads + Sync>(
@@ -207,6 +398,11 @@ pub(crate) fn search_all<Rt: Threads + Sync>(
     ensures each { IfOk result (IsJoinOf schema.now request.now views.now) }
     ensures refused { IfErr result (IsRefusedIn schema.now request.now views.now) }
 {
-    let answers = answers_of(rt, alloc, manner, schema, request, views)?;
-    joined(alloc, request, answers)
+    if let Some(share) = share_of(request.wanted, views.len()) {
+        let all = search_shares(rt, alloc, manner, schema, request, views, share)?;
+        if let Some(all) = all {
+            return Ok(all);
+        }
+    }
+    search_whole(rt, alloc, manner, schema, request, views)
 }

@@ -16,6 +16,7 @@ mod plan_laws;
 mod planned;
 mod reads;
 mod searcher;
+mod shares;
 mod split_parts;
 mod splits_error;
 mod step_laws;

@@ -1,23 +1,25 @@
-use Rattle.root_search.proofs.Joining.{all_searched, are_counted, asked_searched, join_of, refused_in, whole_searched}
+use Rattle.root_search.specs.Leaves.{IsJoinOf}
+use Rattle.root_search.proofs.Joining.{asked_views, whole_views}
+use Rattle.root_search.proofs.ShareJoins.{answer_of_join, some_is}
 use Rattle.root_search.proofs.leaves.search_all.Goals as goal
 
-pub joined-requires : goal.joined-requires
-joined-requires g c = are_counted c.args.schema.now c.args.request.now c.args.views.now c.in_ok-answers.answers.items c.in_ok-answers.ensures
+pub returns-in-Some-all-clause-only : goal.returns-in-Some-all-clause-only
+returns-in-Some-all-clause-only g c = λ lists are few asked.
+    let s = c.args.schema.now in
+    let r = c.args.request.now in
+    let views = c.args.views.now in
+    answer_of_join s r views lists c.in-Some-all.all (some_is (IsJoinOf s r views) c.in_ok-all.all c.in-Some-all.all c.in_ok-all.ensures.each c.in-Some-all.is) are asked
 
-pub returns-clause-only : goal.returns-clause-only
-returns-clause-only g c = λ lists.
-    all_searched c.args.schema.now c.args.request.now c.args.views.now lists c.in_ok-answers.answers.items c.joined.result c.in_ok-answers.ensures (c.joined.ensures.only c.args.schema.now) c.joined.ensures.fault
+pub returns-in-Some-all-clause-asked : goal.returns-in-Some-all-clause-asked
+returns-in-Some-all-clause-asked g c = λ lists are few asked.
+    let s = c.args.schema.now in
+    let r = c.args.request.now in
+    let views = c.args.views.now in
+    answer_of_join s r views lists c.in-Some-all.all (some_is (IsJoinOf s r views) c.in_ok-all.all c.in-Some-all.all c.in_ok-all.ensures.each c.in-Some-all.is) (asked_views s r views lists are) asked
 
-pub returns-clause-there : goal.returns-clause-there
-returns-clause-there g c = λ lists.
-    whole_searched c.args.schema.now c.args.request.now c.args.views.now lists c.in_ok-answers.answers.items c.joined.result c.in_ok-answers.ensures (c.joined.ensures.only c.args.schema.now) c.joined.ensures.fault
-
-pub returns-clause-asked : goal.returns-clause-asked
-returns-clause-asked g c = λ lists.
-    asked_searched c.args.schema.now c.args.request.now c.args.views.now lists c.in_ok-answers.answers.items c.joined.result c.in_ok-answers.ensures (c.joined.ensures.only c.args.schema.now) c.joined.ensures.fault
-
-pub returns-clause-each : goal.returns-clause-each
-returns-clause-each g c = join_of c.args.schema.now c.args.request.now c.args.views.now c.in_ok-answers.answers.items c.joined.result c.in_ok-answers.ensures c.joined.ensures.each
-
-pub returns-clause-refused : goal.returns-clause-refused
-returns-clause-refused g c = refused_in c.args.schema.now c.args.request.now c.args.views.now c.in_ok-answers.answers.items c.joined.result c.in_ok-answers.ensures c.joined.ensures.fault
+pub returns-in-Some-all-clause-there : goal.returns-in-Some-all-clause-there
+returns-in-Some-all-clause-there g c = λ lists are few asked.
+    let s = c.args.schema.now in
+    let r = c.args.request.now in
+    let views = c.args.views.now in
+    answer_of_join s r views lists c.in-Some-all.all (some_is (IsJoinOf s r views) c.in_ok-all.all c.in-Some-all.all c.in_ok-all.ensures.each c.in-Some-all.is) (whole_views s views lists are) asked
