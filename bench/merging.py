@@ -3,10 +3,11 @@
 
     bench/merging.py PROGRAM [--splits N] [--docs N] [--many N] [--seed N] [--folder FOLDER]
 
-PROGRAM is the built program (`rt run` leaves it in crates/quick_node/out). Records of a log, and package descriptions of the
-system, are indexed in as many splits as are asked for; then a merger makes one of them, a line at a time, and each line is
-timed, with the most memory that the process had and the bytes of the file that it made. Behind that records of a log are
-indexed in many splits of 1,000, and a count is asked for before their merges and behind them. Tables are printed in Markdown.
+PROGRAM is the built program (`rt run` leaves it in crates/quick_node/out). Short records that are drawn from a number, records of
+a log, and package descriptions of the system are indexed in as many splits as are asked for; then a merger makes one of them, a
+line at a time, and each line is timed, with the processor time of all, the most memory that the process had and the bytes of the
+file that it made. Behind that records of a log are indexed in many splits of 1,000, and a count is asked for before their merges
+and behind them. Tables are printed in Markdown.
 """
 import argparse
 import glob
@@ -20,6 +21,8 @@ import time
 
 import measure
 
+WORDS = "alpha beta gamma delta epsilon zeta eta theta iota kappa lambda mu nu xi omicron pi".split()
+
 # Far above the splits that are merged: a split of so many documents is merged no more.
 TARGET = 10_000_000
 
@@ -30,6 +33,19 @@ merge_factor = %d
 max_merge_factor = %d
 min_level_num_docs = %d
 """
+
+
+def short_records(count, number):
+    """Records of a second, a level, two words of sixteen and a number, drawn by a linear congruence that begins with this number."""
+    for second in range(1_700_000_000, 1_700_000_000 + count):
+        number = (number * 6364136223846793005 + 1442695040888963407) % 2**64
+        drawn = number >> 33
+        yield {
+            "at": second,
+            "level": ("info", "warn", "error", "debug")[drawn % 4],
+            "body": f"{WORDS[drawn // 4 % 16]} {WORDS[drawn // 64 % 16]}",
+            "size": 200 + drawn // 1024 % 400,
+        }
 
 
 class Index:
@@ -81,6 +97,12 @@ class Index:
             merges += word == "replaced"
             rows += int(said.split()[2]) if word == "planned" else 0
 
+    def processor(self):
+        """The seconds of processor time that the process has used."""
+        with open(f"/proc/{self.program.work.pid}/stat", encoding="utf-8") as file:
+            words = file.read().rsplit(")", 1)[1].split()
+        return (int(words[11]) + int(words[12])) / os.sysconf("SC_CLK_TCK")
+
     def peak(self):
         return measure.peak_of(self.program.work.pid)
 
@@ -99,7 +121,9 @@ def merged(path, folder, splits, docs, records):
     indexing = index.batches(records, docs) / (splits * docs) * 1e6
     names = set(glob.glob(f"{folder}/store/splits/*"))
     index.open()
+    begun = index.processor()
     took, merges, rows = index.merge()
+    worked = index.processor() - begun
     peak = index.peak()
     index.close()
     if merges != 1:
@@ -107,7 +131,7 @@ def merged(path, folder, splits, docs, records):
     made = sum(os.path.getsize(it) for it in set(glob.glob(f"{folder}/store/splits/*")) - names)
     seconds = sum(took.values())
     parts = ", ".join(f"{word} {took[word]:.2f}" for word in ("planned", "fetched", "staged", "uploaded", "replaced"))
-    return f"{rows} | {rows * docs:,} | {seconds:.2f} ({parts}) | {seconds / (rows * docs) * 1e6:.2f} | {indexing:.2f} | {made / 1e6:.1f} | {peak / 1e6:.1f} | {peak / made:.2f}"
+    return f"{rows} | {rows * docs:,} | {seconds:.2f} ({parts}) | {seconds / (rows * docs) * 1e6:.2f} | {worked / (rows * docs) * 1e6:.2f} | {indexing:.2f} | {made / 1e6:.1f} | {peak / 1e6:.1f} | {peak / made:.2f}"
 
 
 def many(path, folder, count, seed):
@@ -145,8 +169,10 @@ def main():
     folder = tempfile.mkdtemp(prefix="poltyqen-merging-", dir=args.folder)
     count = args.splits * args.docs
     try:
-        print("| splits into one | of | records | seconds | microseconds a record | of indexing | MB made | peak MB | peak by made |")
-        print("|---|---|---|---|---|---|---|---|---|")
+        print("| splits into one | of | records | seconds | microseconds a record | of processor time | of indexing | MB made | peak MB | peak by made |")
+        print("|---|---|---|---|---|---|---|---|---|---|")
+        print("| short records | " + merged(path, f"{folder}/short", args.splits, args.docs, short_records(count, args.seed)) + " |", flush=True)
+        shutil.rmtree(f"{folder}/short")
         print("| records of a log | " + merged(path, f"{folder}/log", args.splits, args.docs, measure.log_records(count, args.seed)) + " |", flush=True)
         shutil.rmtree(f"{folder}/log")
         print("| package descriptions | " + merged(path, f"{folder}/text", args.splits, args.docs, measure.text_records(count, args.seed)) + " |", flush=True)
