@@ -23,6 +23,7 @@ use Rattle.quick_node.specs.Serve.{IsPrefixOf, Before, After, End, out_of_memory
 use Rattle.quick_node.specs.Applies.{AppliesFrom, SettlesFrom, idle}
 use Rattle.quick_node.specs.Deletes.{DeletesFrom}
 use Rattle.quick_node.specs.Replaces.{ReplacesFrom, RestsFrom}
+use Rattle.quick_node.specs.Replaces as merges
 use Rattle.quick_node.specs.declared.error_line.End.{End as Ended}
 use Rattle.quick_node.proofs.Applied.{lives_apply}
 use Rattle.quick_node.proofs.Catching.{lives_catch}
@@ -39,6 +40,7 @@ use Rattle.quick_node.proofs.LineFaults.{none_told}
 use Rattle.quick_node.proofs.Files.{Few, Takes, leaves_of, loaded_few}
 use Rattle.quick_node.proofs.Reached.{reaches, reaches_itself}
 use Rattle.quick_node.proofs.LogFaults.{lives_between}
+use Rattle.quick_node.proofs.Refusing.{lives_refuse}
 use Rattle.quick_node.proofs.EndFaults.{lives_told}
 use Rattle.quick_node.proofs.BeforeLastLine.{Met, printed_on, silent_short, most_on}
 
@@ -171,6 +173,7 @@ module _ (history : List Entry) (before : Before) (after : After) (fresh last : 
     configured = configured_on history (journal_of last.core) follows.0 world.index.stands.legal;
     searches = follows.1;
     deletes = follows.2;
+    refuses = lives_refuse (journal_of last.core) world.index.stands.legal history before fresh is after end lines outcomes last ends lives (unread_front last.core.history last.core.standing) tell;
     faults = told;
     faultless = λ still. none_told after.store_faults (end_told end ++ flat_map store_told outcomes) still.1
         (subst (λ n. AreBetween n (end_told end ++ flat_map store_told outcomes) after.store_faults) still.0 (told (omega (arith, still.0, still.1))));
@@ -180,8 +183,8 @@ module _ (history : List Entry) (before : Before) (after : After) (fresh last : 
     catch_up = λ i within. lives_catch history (journal_of last.core) before fresh is i within end lines outcomes last lives (unread_front last.core.history last.core.standing);
     expires = λ config configured. lives_expire history (journal_of last.core) follows.0 world.index.stands.legal config configured before fresh is end lines outcomes last lives (unread_front last.core.history last.core.standing);
     collects = along_collects (journal_of last.core) world.index.stands.legal history fresh last (ap (λ n. n.core.history) is.is) lines outcomes (unread_front last.core.history last.core.standing) along;
-    replaces = merges.0;
-    rests = merges.1;
+    replaces = merged.0;
+    rests = merged.1;
     applies = applied.0;
     settles = applied.1;
     tell = tell;
@@ -197,8 +200,8 @@ module _ (history : List Entry) (before : Before) (after : After) (fresh last : 
         subst (λ s. (s ≡ reading_status ending) ⊎ (s ≡ 11)) (sym status_is) (exact_status history before after fresh last is shown calm end lines outcomes ends lives some read ending live reads);
   }
     where
-      merges : ReplacesFrom (journal_of last.core) 0 (length history) [] lines outcomes × RestsFrom (journal_of last.core) 0 (length history) lines outcomes
-      merges = lives_merge (journal_of last.core) world.index.stands.legal history before fresh is after end lines outcomes last ends lives (unread_front last.core.history last.core.standing)
+      merged : ReplacesFrom (journal_of last.core) 0 (length history) merges.idle lines outcomes × RestsFrom (journal_of last.core) 0 (length history) lines outcomes
+      merged = lives_merge (journal_of last.core) world.index.stands.legal history before fresh is after end lines outcomes last ends lives (unread_front last.core.history last.core.standing)
 
       applied : AppliesFrom (journal_of last.core) (length history) idle lines outcomes × SettlesFrom (journal_of last.core) (length history) outcomes
       applied = lives_apply (journal_of last.core) world.index.stands.legal history before fresh is after end lines outcomes last ends lives (unread_front last.core.history last.core.standing)

@@ -50,6 +50,10 @@ mod MergeCalls
 mod Merged
 mod ApplyCalls
 mod Applied
+mod JsonTokens
+mod JsonTexts
+mod AskedTexts
+mod Refusing
 mod LogFaults
 pub mod CreateLeaves
 pub mod CreateClause

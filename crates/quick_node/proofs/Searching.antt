@@ -83,6 +83,7 @@ OnRequest exit least known front len no_request = Unit {0}
 OnRequest exit least known front len (opened text) = known.text ≡ text
 OnRequest exit least known front len (planned plan) =
     (asked_of (config_then plan.revision exit) known.text ≡ Ok (IsSearch plan.search)) × (least ≤ plan.revision) × (front ≤ plan.revision) × (plan.revision ≤ len)
+    × (0 < plan.revision)
 
 pub record Agrees (exit : List Entry) (least len : ℕ) (name : List ℕ) (known : Known) (client : Client) : Type 0 where
   pub known_name : known.name ≡ name
@@ -97,7 +98,7 @@ AllAgree exit least len known client = (name : List ℕ) → Agrees exit least l
 on-more : (exit : List Entry) (least : ℕ) (known : Known) (front len more : ℕ) (request : Request) → len ≤ more → OnRequest exit least known front len request → OnRequest exit least known front more request
 on-more exit least known front len more no_request h r = tt
 on-more exit least known front len more (opened text) h r = r
-on-more exit least known front len more (planned plan) h r = (r.0, r.1, r.2, omega (arith, h, r.3))
+on-more exit least known front len more (planned plan) h r = (r.0, r.1, r.2, omega (arith, h, r.3), r.4)
 
 agrees-more : (exit : List Entry) (least len more : ℕ) (name : List ℕ) (known : Known) (client : Client) → len ≤ more → Agrees exit least len name known client → Agrees exit least more name known client
 agrees-more exit least len more name known client h a =
@@ -147,10 +148,15 @@ longer : (a b : Core) → Grows a b → length a.history ≤ length b.history
 longer a b g = let e : length b.history ≡ length a.history + length g.0 = ap length g.1 ∙ length-append a.history g.0 in omega (arith, e)
 
 -- The journal at exit is a legal one, and this core has taken in an entry at least, and as many as stood at entry.
-record Ready (exit : List Entry) (least : ℕ) (core : Core) : Type 0 where
-  legal : Legal reads (history exit)
-  low : least ≤ length core.history
-  some : 0 < length core.history
+pub record Ready (exit : List Entry) (least : ℕ) (core : Core) : Type 0 where
+  pub legal : Legal reads (history exit)
+  pub low : least ≤ length core.history
+  pub some : 0 < length core.history
+
+-- so is one that took in more
+pub ready_on : (exit : List Entry) (least : ℕ) (core after : Core) → Ready exit least core → length core.history ≤ length after.history → Ready exit least after
+ready_on exit least core after ready up =
+    record { legal = ready.legal; low = let l = ready.low in omega (arith, l, up); some = let l = ready.some in omega (arith, l, up) }
 
 pub prefix_on : (a b c : List Entry) → IsPrefixOf a b → IsPrefixOf b c → IsPrefixOf a c
 prefix_on a b c g h = (g.0 ++ h.0, h.1 ∙ ap (λ l. l ++ h.0) g.1 ∙ append_assoc a g.0 h.0)
@@ -218,8 +224,8 @@ module _ (exit : List Entry) (log : Log) (least from : ℕ) (knowns : List Known
 
   plan_went : (r : Result ⊤ Trouble) (asked : Result Search Unanswered) (text : List ℕ) (client : Client) (core : Core) →
       Agrees exit least (length core.history) name (known_of name knowns) client → (known_of name knowns).text ≡ text →
-      asked_of (config_then (length core.history) exit) text ≡ as_asked asked → least ≤ length core.history → OfText asked → StepWent (plan_by r asked client core)
-  plan_went (Ok done) (Ok search) text client core a t w l h =
+      asked_of (config_then (length core.history) exit) text ≡ as_asked asked → least ≤ length core.history → 0 < length core.history → OfText asked → StepWent (plan_by r asked client core)
+  plan_went (Ok done) (Ok search) text client core a t w l some h =
       let step = plan_by (Ok done) (Ok search) client core in
       said_went (Planned _ _) step.client core
       (record {
@@ -228,17 +234,17 @@ module _ (exit : List Entry) (log : Log) (least from : ℕ) (knowns : List Known
           client_name = a.client_name;
           front = a.front;
           bound = a.bound;
-          request = (ap (asked_of (config_then (length core.history) exit)) t ∙ w, l, a.bound, omega arith);
+          request = (ap (asked_of (config_then (length core.history) exit)) t ∙ w, l, a.bound, omega arith, some);
         };
         answers = tt;
         deletes = tt;
       })
-  plan_went (Ok done) (Err (reasons.Refused refusal)) text client core a t w l h =
+  plan_went (Ok done) (Err (reasons.Refused refusal)) text client core a t w l some h =
       refusal_went (length core.history) refusal client core a a.bound (omega arith) (text_cause exit from (length core.history) refusal h)
-  plan_went (Ok done) (Err (reasons.Memory e)) text client core a t w l h = unsaid_went (without_request client) core
-  plan_went (Err trouble) (Ok search) text client core a t w l h = trouble_went client.front trouble client core a (omega arith) a.bound
-  plan_went (Err trouble) (Err (reasons.Refused refusal)) text client core a t w l h = refused_went client.front refusal trouble client core a (omega arith) a.bound h
-  plan_went (Err trouble) (Err (reasons.Memory e)) text client core a t w l h = unsaid_went (without_request client) core
+  plan_went (Ok done) (Err (reasons.Memory e)) text client core a t w l some h = unsaid_went (without_request client) core
+  plan_went (Err trouble) (Ok search) text client core a t w l some h = trouble_went client.front trouble client core a (omega arith) a.bound
+  plan_went (Err trouble) (Err (reasons.Refused refusal)) text client core a t w l some h = refused_went client.front refusal trouble client core a (omega arith) a.bound h
+  plan_went (Err trouble) (Err (reasons.Memory e)) text client core a t w l some h = unsaid_went (without_request client) core
 
   fetch_went : (r : Result ⊤ Trouble) (plan : Plan) (number : ℕ) (more : List ℕ) (client : Client) (core : Core) →
       Agrees exit least (length core.history) name (known_of name knowns) client →
@@ -290,7 +296,7 @@ module _ (exit : List Entry) (log : Log) (least from : ℕ) (knowns : List Known
       let h : length core.history ≤ length given.core.history = longer core given.core (each_moves plan.grace luck.more luck.world core).later.grows in
       fetch_went given.answer plan number more client given.core
       (agrees-more exit least (length core.history) (length given.core.history) name (known_of name knowns) client h a)
-      (r.0, r.1, r.2, omega (arith, r.3, h))
+      (r.0, r.1, r.2, omega (arith, r.3, h), r.4)
 
   -- the configuration that a text is read under is the one of each later revision
   seen_then : (core : Core) → Ready exit least core → IsPrefixOf core.history exit → (revision : ℕ) → length core.history ≤ revision → config_then revision exit ≡ config_in core
@@ -313,7 +319,7 @@ module _ (exit : List Entry) (log : Log) (least from : ℕ) (knowns : List Known
       let given = asked_and_looked luck.world core in
       let h : length core.history ≤ length given.core.history = longer core given.core (asked_and_looked_moves luck.world core).later.grows in
       plan_went given.answer asked text client given.core (agrees-more exit least (length core.history) (length given.core.history) name (known_of name knowns) client h a) t
-      (ap (λ config. asked_of config text) (seen_then core ready p (length given.core.history) h) ∙ word) (let low = ready.low in omega (arith, low, h)) fits
+      (ap (λ config. asked_of config text) (seen_then core ready p (length given.core.history) h) ∙ word) (let low = ready.low in omega (arith, low, h)) (let some = ready.some in omega (arith, some, h)) fits
 
   -- a delete that was read: its task is the last entry, or there is none
   delete_went : (deletion : Deletion) (text : List ℕ) (r : Result ⊤ Unmade) (client : Client) (core after : Core) → Appends (task_act (ask_of deletion)) core r after →
@@ -399,12 +405,12 @@ module _ (exit : List Entry) (log : Log) (least from : ℕ) (knowns : List Known
 
 -- What a line leaves: the log, a longer history, and clients that agree with what is known behind it; and what it says is answered, and a delete was done
 -- in it.
-record Goes (exit : List Entry) (least : ℕ) (knowns : List Known) (node : Node) (line : Line) (o : Outcome) (new : Node) : Type 0 where
-  log : new.log ≡ node.log
-  grows : Grows node.core new.core
-  agrees : AllAgree exit least (length new.core.history) (λ q. known_of q (after_outcome knowns line o)) (λ q. client_named q new.clients)
-  answers : AnswersOne exit node.log least knowns line o
-  deletes : Deletes exit (length node.core.history) (length new.core.history) knowns line o
+pub record Goes (exit : List Entry) (least : ℕ) (knowns : List Known) (node : Node) (line : Line) (o : Outcome) (new : Node) : Type 0 where
+  pub log : new.log ≡ node.log
+  pub grows : Grows node.core new.core
+  pub agrees : AllAgree exit least (length new.core.history) (λ q. known_of q (after_outcome knowns line o)) (λ q. client_named q new.clients)
+  pub answers : AnswersOne exit node.log least knowns line o
+  pub deletes : Deletes exit (length node.core.history) (length new.core.history) knowns line o
 
 -- no client's step says it
 abbrev IsApart : Outcome → Type 0
@@ -679,6 +685,13 @@ module _ (exit : List Entry) (least : ℕ) (knowns : List Known) (node : Node) (
 abbrev AllAnswered : List Entry → Log → (least from : ℕ) → List Known → List Line → List Outcome → Type 0
 AllAnswered exit log least from knowns lines outcomes = AnswersFrom exit log least knowns lines outcomes × DeletesFrom exit from knowns lines outcomes
 
+-- a line of a journal that goes on to the one at exit
+pub line_goes : (exit : List Entry) (least : ℕ) (knowns : List Known) (node mid : Node) (line : Line) (o : Outcome) → Agreed exit least knowns node → Ready exit least node.core →
+    Turn node line (Some o) mid → IsPrefixOf mid.core.history exit → Goes exit least knowns node line o mid
+line_goes exit least knowns node mid line o all ready turn p =
+    subst (λ x. TurnGoes exit least knowns node line x) turn.is
+    (turn_goes exit least knowns node all turn.luck line ready (subst (λ x. IsPrefixOf x.node.core.history exit) (sym turn.is) p)) o refl
+
 -- one line, and what is known behind it
 one_more : (exit : List Entry) (least from : ℕ) (knowns : List Known) (node last : Node) (line : Line) (lines : List Line) (o : Outcome) (os : List Outcome) →
     Agreed exit least knowns node → Ready exit least node.core → from ≤ length node.core.history → IsPrefixOf last.core.history exit →
@@ -700,12 +713,6 @@ one_more exit least from knowns node last line lines o os all ready low p run mo
     mid : Node
     mid = run.0
 
-    t : Turned
-    t = record { said = Some o; node = mid }
-
-    is : turn_with run.1.luck node line ≡ t
-    is = run.1.is
-
     mid_before : IsPrefixOf mid.core.history exit
     mid_before = prefix_on mid.core.history last.core.history exit (turns_later mid last lines os run.2).grows p
 
@@ -713,16 +720,14 @@ one_more exit least from knowns node last line lines o os all ready low p run mo
     mid_short = let e : length exit ≡ length mid.core.history + length mid_before.0 = ap length mid_before.1 ∙ length-append mid.core.history mid_before.0 in omega (arith, e)
 
     goes : Goes exit least knowns node line o mid
-    goes = subst (λ x. TurnGoes exit least knowns node line x) is
-        (turn_goes exit least knowns node all run.1.luck line ready (subst (λ x. IsPrefixOf x.node.core.history exit) (sym is) mid_before)) o refl
+    goes = line_goes exit least knowns node mid line o all ready run.1 mid_before
 
     up : length node.core.history ≤ length mid.core.history
     up = longer node.core mid.core goes.grows
 
     rest : AllAnswered exit mid.log least (length mid.core.history) (after_outcome knowns line o) lines os
     rest =
-        more goes.agrees
-        (record { legal = ready.legal; low = let l = ready.low in omega (arith, l, up); some = let l = ready.some in omega (arith, l, up) })
+        more goes.agrees (ready_on exit least node.core mid.core ready up)
 
 searches_answered : (exit : List Entry) (least from : ℕ) (knowns : List Known) (node last : Node) (lines : List Line) (outcomes : List Outcome) →
     Agreed exit least knowns node → Ready exit least node.core → from ≤ length node.core.history → IsPrefixOf last.core.history exit →
@@ -735,7 +740,7 @@ searches_answered exit least from knowns node last (line ∷ lines) (o ∷ os) a
     (λ agreed there. searches_answered exit least (length run.0.core.history) (after_outcome knowns line o) run.0 last lines os agreed there (omega arith) p run.2)
 
 -- a node that no client has talked to
-none_known : (exit : List Entry) (least : ℕ) (node : Node) → node.clients ≡ [] → Agreed exit least [] node
+pub none_known : (exit : List Entry) (least : ℕ) (node : Node) → node.clients ≡ [] → Agreed exit least [] node
 none_known exit least node e name =
     subst (λ cs. Agrees exit least (length node.core.history) name (known_of name []) (client_named name cs)) (sym e)
     (record { known_name = refl; client_name = refl; front = refl; bound = omega arith; request = tt })

@@ -1,6 +1,7 @@
 pub mod Reading
 pub mod Fronts
 pub mod Deletes
+pub mod Refusals
 pub mod Once
 pub mod Serve
 pub mod Pieces

@@ -18,8 +18,16 @@ use Rattle.index_world.specs.Configuration.{configuration, config_or}
 use Rattle.upkeep_run.specs.Outcomes.{UpkeepOutcome}
 use Rattle.upkeep_run.specs.Outcomes as working
 use Rattle.upkeep_run.specs.declared.work.Aim.TheVariants.{Merging}
-use Rattle.node_run.specs.Node.{Line, Outcome, worker_said, worker_restarted, node_restarted, node_failed}
+use Rattle.node_run.specs.Node.{Line, StepMerger, RestartMerger, Outcome, worker_said, worker_restarted, node_restarted, node_failed}
 use Rattle.quick_node.specs.Reading.{last_moment}
+
+-- What a merger said last: that these rows are to be replaced, which it then fetches, that another row was staged for their place, or that this one's
+-- file was made. It is idle where it has no plan.
+pub data Merge : Type 0 where
+  idle : Merge
+  planned : (rows : List ℕ) → Merge
+  staged : (rows : List ℕ) → (number : ℕ) → Merge
+  uploaded : (rows : List ℕ) → (number : ℕ) → Merge
 
 -- ---- the rows that are chosen
 
@@ -62,31 +70,36 @@ IsRefused revision entries number old refusal =
 abbrev pub IsCrowded : (revision : ℕ) → List Entry → Refusal → Type 0
 IsCrowded revision entries refusal = (100000 ≤ length (rows (history (take revision entries)))) × (refusal ≡ TooManyRows (length (rows (history (take revision entries)))))
 
--- What a merger said is what it did, in a line that begins behind `least` entries and ends behind `next`, where it had planned the rows `plan` and
--- behind it those of `planned`, or none where it is idle. The rows of a plan are those that the policy chose then. What it staged and replaced is an entry of this line, and it
--- replaces exactly these. A merge is lost only where at a revision of this line the journal doesn't allow it, and refused only where no row more may be
--- staged.
-abbrev pub Merged : List Entry → (clock least next : ℕ) → (plan planned : List ℕ) → UpkeepOutcome → Type 0
-Merged entries clock least next plan planned working.Nothing = planned ≡ []
-Merged entries clock least next plan planned (working.Planned count) =
-    (revision : ℕ) × (least ≤ revision) × (revision ≤ next) × (chosen_at clock revision entries ≡ Some planned) × (length planned ≡ count)
-Merged entries clock least next plan planned (working.Fetched number) = Contains plan number × (planned ≡ plan)
-Merged entries clock least next plan planned (working.Staged number) = (place : ℕ) × (least ≤ place) × (place < next) × IsStaging entries place number × (planned ≡ plan)
-Merged entries clock least next plan planned (working.Uploaded number) = planned ≡ plan
-Merged entries clock least next plan planned (working.Replaced number) = (place : ℕ) × (least ≤ place) × (place < next) × IsReplacing entries place number plan 0 × (planned ≡ [])
-Merged entries clock least next plan planned (working.Raised number) = ⊥
-Merged entries clock least next plan planned (working.Lost number refusal) =
-    (revision : ℕ) × (least ≤ revision) × (revision ≤ next) × IsHindered revision entries number plan × IsRefused revision entries number plan refusal × (planned ≡ [])
-Merged entries clock least next plan planned (working.Refused refusal) = (revision : ℕ) × (least ≤ revision) × (revision ≤ next) × IsCrowded revision entries refusal × (planned ≡ [])
-Merged entries clock least next plan planned (working.Faulted fault) = planned ≡ []
+-- What a merger said is what it did, in a line that begins behind `least` entries and ends behind `next`, where it was at `at` and then at `after`. The
+-- rows of its plan are those that the policy chose then, and it fetches these. What it staged and replaced is an entry of this line: the row that it
+-- staged is the one whose file it made and that it puts in the place of exactly these. A merge is lost only where at a revision of this line the
+-- journal doesn't allow it, and refused only where no row more may be staged.
+abbrev pub Merged : List Entry → (clock least next : ℕ) → (at after : Merge) → UpkeepOutcome → Type 0
+Merged entries clock least next at after working.Nothing = (at ≡ idle) × (after ≡ idle)
+Merged entries clock least next at after (working.Planned count) =
+    (revision : ℕ) × (rows : List ℕ) × (least ≤ revision) × (revision ≤ next) × (at ≡ idle) × (chosen_at clock revision entries ≡ Some rows) × (length rows ≡ count)
+    × (after ≡ planned rows)
+Merged entries clock least next at after (working.Fetched number) = (rows : List ℕ) × (at ≡ planned rows) × Contains rows number × (after ≡ planned rows)
+Merged entries clock least next at after (working.Staged number) =
+    (rows : List ℕ) × (place : ℕ) × (least ≤ place) × (place < next) × (at ≡ planned rows) × IsStaging entries place number × (after ≡ staged rows number)
+Merged entries clock least next at after (working.Uploaded number) = (rows : List ℕ) × (at ≡ staged rows number) × (after ≡ uploaded rows number)
+Merged entries clock least next at after (working.Replaced number) =
+    (rows : List ℕ) × (place : ℕ) × (least ≤ place) × (place < next) × (at ≡ uploaded rows number) × IsReplacing entries place number rows 0 × (after ≡ idle)
+Merged entries clock least next at after (working.Raised number) = ⊥
+Merged entries clock least next at after (working.Lost number refusal) =
+    (rows : List ℕ) × (revision : ℕ) × (least ≤ revision) × (revision ≤ next) × (at ≡ uploaded rows number) × IsHindered revision entries number rows
+    × IsRefused revision entries number rows refusal × (after ≡ idle)
+Merged entries clock least next at after (working.Refused refusal) =
+    (rows : List ℕ) × (revision : ℕ) × (least ≤ revision) × (revision ≤ next) × (at ≡ planned rows) × IsCrowded revision entries refusal × (after ≡ idle)
+Merged entries clock least next at after (working.Faulted fault) = after ≡ idle
 
--- A restart drops the plan, and other outcomes leave it.
-abbrev pub Replaces : List Entry → (clock least next : ℕ) → (plan planned : List ℕ) → Outcome → Type 0
-Replaces entries clock least next plan planned (worker_said Merging outcome) = Merged entries clock least next plan planned outcome
-Replaces entries clock least next plan planned (worker_restarted Merging) = planned ≡ []
-Replaces entries clock least next plan planned (node_restarted revision) = planned ≡ []
-Replaces entries clock least next plan planned (node_failed fault) = planned ≡ []
-Replaces entries clock least next plan planned outcome = planned ≡ plan
+-- It says so at its own line alone. A restart makes it idle, and other outcomes leave it where it is.
+abbrev pub Replaces : List Entry → (clock least next : ℕ) → (at after : Merge) → Line → Outcome → Type 0
+Replaces entries clock least next at after line (worker_said Merging outcome) = (line ≡ StepMerger) × Merged entries clock least next at after outcome
+Replaces entries clock least next at after line (worker_restarted Merging) = (line ≡ RestartMerger) × (after ≡ idle)
+Replaces entries clock least next at after line (node_restarted revision) = after ≡ idle
+Replaces entries clock least next at after line (node_failed fault) = after ≡ idle
+Replaces entries clock least next at after line outcome = after ≡ at
 
 -- Where nothing was to be done, the policy chose no rows at a revision and the moment of this line.
 abbrev pub Rested : List Entry → (clock least next : ℕ) → UpkeepOutcome → Type 0
@@ -101,13 +114,13 @@ Rests entries clock least next outcome = Unit {0}
 
 -- So did each line behind so many entries of the journal at exit, up to where the next one begins: no two of them tell of one entry. The clock is
 -- what `at` told before.
-abbrev pub ReplacesFrom : List Entry → (clock least : ℕ) → (plan : List ℕ) → List Line → List Outcome → Type 0
-ReplacesFrom exit clock least plan [] [] = Unit {0}
-ReplacesFrom exit clock least plan [] (outcome ∷ outcomes) = ⊥
-ReplacesFrom exit clock least plan (line ∷ lines) [] = ⊥
-ReplacesFrom exit clock least plan (line ∷ lines) (outcome ∷ outcomes) =
-    (next : ℕ) × (planned : List ℕ) × (least ≤ next) × (next ≤ length exit) × Replaces exit (last_moment clock (line ∷ [])) least next plan planned outcome
-    × ReplacesFrom exit (last_moment clock (line ∷ [])) next planned lines outcomes
+abbrev pub ReplacesFrom : List Entry → (clock least : ℕ) → Merge → List Line → List Outcome → Type 0
+ReplacesFrom exit clock least at [] [] = Unit {0}
+ReplacesFrom exit clock least at [] (outcome ∷ outcomes) = ⊥
+ReplacesFrom exit clock least at (line ∷ lines) [] = ⊥
+ReplacesFrom exit clock least at (line ∷ lines) (outcome ∷ outcomes) =
+    (next : ℕ) × (after : Merge) × (least ≤ next) × (next ≤ length exit) × Replaces exit (last_moment clock (line ∷ [])) least next at after line outcome
+    × ReplacesFrom exit (last_moment clock (line ∷ [])) next after lines outcomes
 
 abbrev pub RestsFrom : List Entry → (clock least : ℕ) → List Line → List Outcome → Type 0
 RestsFrom exit clock least [] [] = Unit {0}

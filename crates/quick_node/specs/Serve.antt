@@ -36,7 +36,9 @@ use Rattle.quick_node.specs.Expires.{ExpiresOver}
 use Rattle.quick_node.specs.Faults.{Interval, AreBetween, store_told, log_told}
 use Rattle.quick_node.specs.Fronts.{Known, after_outcome, config_then, known_of}
 use Rattle.quick_node.specs.Once.{HoldsOnce, CoversAt, AreLeft, Reaches}
+use Rattle.quick_node.specs.Refusals.{RefusesFrom}
 use Rattle.quick_node.specs.Replaces.{ReplacesFrom, RestsFrom}
+use Rattle.quick_node.specs.Replaces as merges
 use Rattle.quick_node.specs.Reading.{Ending, all_read, bad_line, clients_over, line_over, input_over, stopped, Reads, FailsBehind, max_clients, max_line, max_input}
 
 abbrev pub IsPrefixOf : {X : Type 0} → List X → List X → Type 0
@@ -339,6 +341,8 @@ pub record Drives (history : List Entry) (before : Before) (after : After) (stat
   -- each reply that a delete was done names the task that its line added to the journal, of exactly what its client asked to delete; and no refusal is
   -- over a revision before its client's front, so a client's later searches are over one that has its tasks
   pub deletes : DeletesFrom exit (length history) [] lines outcomes
+  -- each refusal is one of what its client's text asks: a search is never refused for want of room, and a delete only where there is none
+  pub refuses : RefusesFrom exit (length history) [] lines outcomes
   -- each fault of the store that a line tells has its count before and behind, of which the second rose: these lie one behind
   -- another between the counts at entry and at exit
   pub faults : before.store_faults ≤ last_count → AreBetween before.store_faults (end_told end ++ flat_map store_told outcomes) after.store_faults
@@ -355,7 +359,7 @@ pub record Drives (history : List Entry) (before : Before) (after : After) (stat
   pub collects : CollectsFrom exit (length history) outcomes
   -- what a merger says is what it did: it replaces exactly the rows that the policy chose at its plan, and a merge is lost only where the journal
   -- doesn't allow it
-  pub replaces : ReplacesFrom exit 0 (length history) [] lines outcomes
+  pub replaces : ReplacesFrom exit 0 (length history) merges.idle lines outcomes
   -- a merger has nothing to do only where the policy chooses no rows
   pub rests : RestsFrom exit 0 (length history) lines outcomes
   -- what a delete worker says is what it did: it applies all tasks to the first row that is behind them, and that row is lost only where the journal

@@ -47,7 +47,9 @@ pub fn a_new_index_enters()
 
 /// Whatever lands and fails, the journal at entry is a prefix of each legal history that the last node's is a prefix of. Each
 /// reply with hits is the answer to what its client asked last, over one revision of that history, and each reply that a delete
-/// was done names the task that its line added to it.
+/// was done names the task that its line added to it. The history is asked to be legal, since without that an entry which is taken in
+/// between could name another configuration than the one that a text was read under; the journal of an index is so, as that at exit
+/// (`index` of `Drives`).
 pub fn replies_are_right()
     ensures { (history exit : List Entry) → Legal reads (told_by exit) → (before : Before) (fresh : Node) → IsFresh before history fresh →
         (end : End) (lines : List Line) (outcomes : List Outcome) (last : Node) → Lives before end fresh lines outcomes last →
