@@ -1,13 +1,13 @@
 #!/usr/bin/env python3
 """Measures the built program beside SQLite FTS5: the same records, the same questions, in one run.
 
-    bench/measure.py PROGRAM [--records N ..] [--seed N] [--repeat N] [--folder FOLDER]
+    bench/measure.py PROGRAM [--before PROGRAM] [--records N ..] [--seed N] [--repeat N] [--folder FOLDER]
 
 PROGRAM is the built program (`rt run` leaves it in crates/quick_node/out). It makes two corpora from a seed: records of a
 log (a datetime, a level of four values, a body of 2 to 20 words of a skewed vocabulary of 50,000, a number), and real text,
 the package descriptions of the system. Each is indexed by the program over a folder and by SQLite over a file, both are
 asked the same questions, the answers are compared, and a table of times, ratios, peak memory and bytes on disk is printed in
-Markdown. Only Python's standard library is used; its sqlite3 must have FTS5.
+Markdown; where another build of the program is named, it is asked the same over a copy of the index. Only Python's standard library is used; its sqlite3 must have FTS5.
 """
 import argparse
 import bisect
@@ -332,7 +332,7 @@ def milli(seconds):
     return f"{seconds * 1000:.2f}" if seconds < 0.1 else f"{seconds * 1000:.0f}"
 
 
-def measured(program, name, records, folder, repeat):
+def measured(program, before, name, records, folder, repeat):
     os.makedirs(f"{folder}/logs")
     with open(f"{folder}/logs/p0", "w", encoding="utf-8") as file:
         for record in records:
@@ -341,13 +341,16 @@ def measured(program, name, records, folder, repeat):
     ours = indexed(program, folder)
     theirs = in_sqlite(f"{folder}/base.db", f"{folder}/logs/p0")
     print(f"\n**{name}, {len(records):,} records, {os.path.getsize(f'{folder}/logs/p0') / 1e6:.0f} MB of lines**\n")
-    print("| | Poltyqen | SQLite FTS5 | Ratio |\n|---|---|---|---|")
+    print(f"| | Poltyqen | SQLite FTS5 | Ratio |{' Before |' if before else ''}\n|---|---|---|---|{'---|' if before else ''}")
     for what, mine, other, unit in [("indexing, seconds", ours[0], theirs[0], ""), ("indexing, processor seconds", ours[1], theirs[1], ""),
                                     ("indexing, peak MB", ours[2] / 1e6, theirs[2] / 1e6, ""),
                                     ("on disk, MB", disk_of(f"{folder}/store") / 1e6, os.path.getsize(f"{folder}/base.db") / 1e6, "")]:
-        print(f"| {what} | {mine:.1f}{unit} | {other:.1f}{unit} | {mine / other:.2f} |")
+        print(f"| {what} | {mine:.1f}{unit} | {other:.1f}{unit} | {mine / other:.2f} |{' |' if before else ''}")
     equal = True
     at_work = Program(program, f"{folder}/store", f"{folder}/logs")
+    if before:
+        shutil.copytree(f"{folder}/store", f"{folder}/copy")
+    was_at_work = Program(before, f"{folder}/copy", f"{folder}/logs") if before else None
     base = sqlite3.connect(f"{folder}/base.db")
     for question in questions(records):
         at_work.ask(question.asked)
@@ -356,8 +359,14 @@ def measured(program, name, records, folder, repeat):
         told, other = timed(repeat, lambda: answer_of(base, question))
         same = question.shown(said) == told or question.shown(said) == [tuple(it) for it in told] if isinstance(told, list) else question.shown(said) == told
         equal = equal and same
-        print(f"| {question.name}, ms | {milli(mine)} | {milli(other)} | {mine / other:.2f}{'' if same else ' (answers differ)'} |")
+        was = ""
+        if was_at_work:
+            was_at_work.ask(question.asked)
+            was = f" {milli(timed(repeat, lambda: was_at_work.ask(question.asked))[1])} |"
+        print(f"| {question.name}, ms | {milli(mine)} | {milli(other)} | {mine / other:.2f}{'' if same else ' (answers differ)'} |{was}")
     at_work.end()
+    if was_at_work:
+        was_at_work.end()
     question = questions(records)[0]
 
     def cold():
@@ -368,7 +377,7 @@ def measured(program, name, records, folder, repeat):
 
     _, mine = timed(repeat, cold)
     other = statistics.median(cold_sqlite(f"{folder}/base.db", question) for _ in range(repeat))
-    print(f"| a rare word in a new process, ms | {milli(mine)} | {milli(other)} | {mine / other:.2f} |")
+    print(f"| a rare word in a new process, ms | {milli(mine)} | {milli(other)} | {mine / other:.2f} |{' |' if before else ''}")
     sys.stdout.flush()
     return equal
 
@@ -380,8 +389,10 @@ def main():
     given.add_argument("--seed", type=int, default=7)
     given.add_argument("--repeat", type=int, default=5)
     given.add_argument("--folder")
+    given.add_argument("--before", help="another build of the program, which is asked the same over a copy of the index")
     asked = given.parse_args()
     program = os.path.abspath(asked.program)
+    before = asked.before and os.path.abspath(asked.before)
     print(f"Measured by bench/measure.py with seed {asked.seed} on {os.cpu_count()} processors of {platform.machine()}, "
           f"Python {platform.python_version()}, SQLite {sqlite3.sqlite_version}; load {os.getloadavg()[0]:.1f} at the start. "
           f"Times of questions are medians of {asked.repeat}, warm, one process.")
@@ -390,7 +401,7 @@ def main():
         for count in asked.records:
             folder = tempfile.mkdtemp(prefix="poltyqen-bench-", dir=asked.folder)
             try:
-                equal = measured(program, name, list(made(count, asked.seed)), folder, asked.repeat) and equal
+                equal = measured(program, before, name, list(made(count, asked.seed)), folder, asked.repeat) and equal
             finally:
                 shutil.rmtree(folder)
     print("\nAll answers are equal." if equal else "\nSome answers differ.")
