@@ -1,4 +1,4 @@
--- When a search, or a merger, comes too late.
+-- When a search, a merger or a delete worker comes too late.
 use Rattle.std.specs.Prelude.{ℕ, ◌+◌, ◌≤◌}
 use Rattle.index_world.specs.Calls.{Fault, is_expired}
 use Rattle.root_search.specs.declared.outcome.SearchStep.TheVariants.{Replied}

@@ -353,7 +353,7 @@ pub record Drives (history : List Entry) (before : Before) (after : After) (stat
       AreBetween (slice_index before.log_faults i) (flat_map (log_told i) outcomes) (slice_index after.log_faults i)
   -- each indexer says that it caught up exactly where the checkpoints that it saw are the ends of its partitions
   pub catch_up : (i : ℕ) → i < length before.log_faults → CatchesUp exit before.log i (length history) unseen lines outcomes
-  -- a search, or a step of a merger, is refused as Expired only where the deletion grace had passed behind its plan
+  -- a search, or a step of a merger or a delete worker, is refused as Expired only where the deletion grace had passed behind its plan
   pub expires : (config : IndexConfig) → configuration history ≡ Some config → AllByRecursion (ExpiresOver config.deletion_grace) outcomes
   -- what the collector says is what it did, each line behind the journal of those before it
   pub collects : CollectsFrom exit (length history) outcomes
