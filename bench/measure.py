@@ -7,7 +7,8 @@ PROGRAM is the built program (`rt run` leaves it in crates/quick_node/out). It m
 log (a datetime, a level of four values, a body of 2 to 20 words of a skewed vocabulary of 50,000, a number), and real text,
 the package descriptions of the system. Each is indexed by the program over a folder and by SQLite over a file, both are
 asked the same questions, the answers are compared, and a table of times, ratios, peak memory and bytes on disk is printed in
-Markdown; where another build of the program is named, it is asked the same over a copy of the index. Only Python's standard library is used; its sqlite3 must have FTS5.
+Markdown; where another build of the program is named, it indexes the same records too, over a folder of its own, and is asked
+the same. Only Python's standard library is used; its sqlite3 must have FTS5.
 """
 import argparse
 import bisect
@@ -332,25 +333,37 @@ def milli(seconds):
     return f"{seconds * 1000:.2f}" if seconds < 0.1 else f"{seconds * 1000:.0f}"
 
 
+def sized(program, folder):
+    """Indexes the folder's logs: the seconds, the processor's seconds, the peak memory and the bytes on disk, both in MB."""
+    taken, used, peak = indexed(program, folder)
+    return taken, used, peak / 1e6, disk_of(f"{folder}/store") / 1e6
+
+
+def indexed_before(before, folder):
+    """The same by another build of the program, over the same logs and a store of its own."""
+    os.makedirs(f"{folder}/before")
+    os.symlink(os.path.abspath(f"{folder}/logs"), f"{folder}/before/logs")
+    made_index(before, f"{folder}/before", CONFIG % DOCS_IN_A_SPLIT)
+    return sized(before, f"{folder}/before")
+
+
 def measured(program, before, name, records, folder, repeat):
     os.makedirs(f"{folder}/logs")
     with open(f"{folder}/logs/p0", "w", encoding="utf-8") as file:
         for record in records:
             file.write(json.dumps(record) + "\n")
     made_index(program, folder, CONFIG % DOCS_IN_A_SPLIT)
-    ours = indexed(program, folder)
+    ours = sized(program, folder)
+    olders = indexed_before(before, folder) if before else [0] * 4
     theirs = in_sqlite(f"{folder}/base.db", f"{folder}/logs/p0")
     print(f"\n**{name}, {len(records):,} records, {os.path.getsize(f'{folder}/logs/p0') / 1e6:.0f} MB of lines**\n")
     print(f"| | Poltyqen | SQLite FTS5 | Ratio |{' Before |' if before else ''}\n|---|---|---|---|{'---|' if before else ''}")
-    for what, mine, other, unit in [("indexing, seconds", ours[0], theirs[0], ""), ("indexing, processor seconds", ours[1], theirs[1], ""),
-                                    ("indexing, peak MB", ours[2] / 1e6, theirs[2] / 1e6, ""),
-                                    ("on disk, MB", disk_of(f"{folder}/store") / 1e6, os.path.getsize(f"{folder}/base.db") / 1e6, "")]:
-        print(f"| {what} | {mine:.1f}{unit} | {other:.1f}{unit} | {mine / other:.2f} |{' |' if before else ''}")
+    for what, mine, other, older in zip(("indexing, seconds", "indexing, processor seconds", "indexing, peak MB", "on disk, MB"),
+                                        ours, (*theirs[:2], theirs[2] / 1e6, os.path.getsize(f"{folder}/base.db") / 1e6), olders):
+        print(f"| {what} | {mine:.1f} | {other:.1f} | {mine / other:.2f} |{f' {older:.1f} |' if before else ''}")
     equal = True
     at_work = Program(program, f"{folder}/store", f"{folder}/logs")
-    if before:
-        shutil.copytree(f"{folder}/store", f"{folder}/copy")
-    was_at_work = Program(before, f"{folder}/copy", f"{folder}/logs") if before else None
+    was_at_work = Program(before, f"{folder}/before/store", f"{folder}/logs") if before else None
     base = sqlite3.connect(f"{folder}/base.db")
     for question in questions(records):
         at_work.ask(question.asked)
@@ -369,15 +382,16 @@ def measured(program, before, name, records, folder, repeat):
         was_at_work.end()
     question = questions(records)[0]
 
-    def cold():
-        fresh = Program(program, f"{folder}/store", f"{folder}/logs")
+    def cold(path, store):
+        fresh = Program(path, store, f"{folder}/logs")
         found = fresh.ask(question.asked)
         fresh.end()
         return found
 
-    _, mine = timed(repeat, cold)
+    _, mine = timed(repeat, lambda: cold(program, f"{folder}/store"))
     other = statistics.median(cold_sqlite(f"{folder}/base.db", question) for _ in range(repeat))
-    print(f"| a rare word in a new process, ms | {milli(mine)} | {milli(other)} | {mine / other:.2f} |{' |' if before else ''}")
+    was = f" {milli(timed(repeat, lambda: cold(before, f'{folder}/before/store'))[1])} |" if before else ""
+    print(f"| a rare word in a new process, ms | {milli(mine)} | {milli(other)} | {mine / other:.2f} |{was}")
     sys.stdout.flush()
     return equal
 
@@ -389,7 +403,7 @@ def main():
     given.add_argument("--seed", type=int, default=7)
     given.add_argument("--repeat", type=int, default=5)
     given.add_argument("--folder")
-    given.add_argument("--before", help="another build of the program, which is asked the same over a copy of the index")
+    given.add_argument("--before", help="another build of the program, which indexes the same and is asked the same")
     asked = given.parse_args()
     program = os.path.abspath(asked.program)
     before = asked.before and os.path.abspath(asked.before)
