@@ -207,6 +207,13 @@ impl<S: ObjectStore, C: SteadyClock> World<S, C> {
         &mut self.clock
     }
 
+    /// The count of the store's faults.
+    pub fn faults(&self) -> u64
+        ensures { result ≡ self.now.store_faults }
+    {
+        self.store.faults()
+    }
+
     /// The state.
     pub fn meta(&self) -> &Meta
         ensures { result.now.state ≡ self.now.meta }
