@@ -171,7 +171,7 @@ pub trait Gate {
             Does Stands Between Owns Adds None (of_sweep_list (option_copied behind.entry)) list_call IsTrouble (IsSweepPage (option_copied behind.entry)) result core log self.old self.new };
 
     /// Deletes the file of a number that was staged and whose row is gone, and says whether it is such a number: of another one nothing
-    /// is done, and no call of the store is made.
+    /// is done, and no call of the store is made. Nor is anything done where there is no memory to note the call.
     fn sweep_delete(&mut self, alloc: Global, number: u64) -> Result<bool, WorldError>
         ensures later { since self.old self.new }
         ensures answered { Answers self.old (sweep_answered number result) self.new }
