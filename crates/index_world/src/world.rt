@@ -33,6 +33,7 @@ use crate::life::Life;
 use crate::listing::{PAGE, is_swept, swept_page};
 use crate::next_doomed::next_doomed;
 use crate::own::Own;
+use crate::plan_tasks::{plan_tasks, tasks_behind};
 use crate::steady::SteadyClock;
 use crate::taking::{create_error, get_error, list_error, open};
 use crate::tokens::{DeleteAsk, Marks, Plan, Receipt, Staged, SweepPage, Uploaded};
@@ -234,9 +235,7 @@ impl<S: ObjectStore, C: SteadyClock> World<S, C> {
     pub fn tasks(&self, behind: u64) -> &[Task]
         ensures { result.now ≡ drop behind self.now.meta.tasks }
     {
-        let tasks = self.life.meta.tasks().as_slice();
-        let from = behind.min(tasks.len() as u64) as usize;
-        &tasks[from..]
+        tasks_behind(self.life.meta.tasks().as_slice(), behind)
     }
 
     // Whether files that were marked behind a plan of this moment may be gone.
@@ -560,11 +559,15 @@ impl<S: ObjectStore, C: SteadyClock> World<S, C> {
         self.ask();
         self.life.settle(alloc, &mut self.store, before)?;
         let life = &self.life;
+        let upto = life.meta.last_opstamp();
+        let rows = life.meta.plan_rows(alloc, choice, life.moment)?;
+        let all = life.meta.tasks().as_slice();
         Ok(Plan {
             revision: life.meta.revision(),
             moment: life.moment,
-            upto: life.meta.last_opstamp(),
-            rows: life.meta.plan_rows(alloc, choice, life.moment)?,
+            upto,
+            tasks: plan_tasks(alloc, choice, upto, rows.as_slice(), all)?,
+            rows,
         })
     }
 
