@@ -34,8 +34,8 @@ fn first_spans(rows: &[PlanRow]) -> &[Span]
     }
 }
 
-/// The tasks behind this one, in their order.
-pub(crate) fn tasks_behind(tasks: &[Task], behind: u64) -> &[Task]
+// The tasks behind this one, in their order.
+fn tasks_behind(tasks: &[Task], behind: u64) -> &[Task]
     ensures { result.now ≡ drop behind tasks.now }
 {
     let from = behind.min(tasks.len() as u64) as usize;
