@@ -27,7 +27,7 @@ use Rattle.split_merge.proofs.PastLemmas.{StandsAtKey, not_listed, stands_at_key
 
 each_can : (kept : Bool) (ps : List Posting) → AllByRecursion (Fits kept) ps → AllByRecursion (λ p. CanHave kept p.positions) ps
 each_can kept [] h = tt
-each_can kept (p ∷ ps) h = (record { rising = h.0.rising; may = h.0.may_have }, each_can kept ps h.1)
+each_can kept (p ∷ ps) h = (record { rising = h.0.rising; may = h.0.may_have; numbers = h.0.numbers }, each_can kept ps h.1)
 
 pub can_spell : (kept : Bool) (ps : List Posting) → AreDocuments kept ps → CanSpell kept ps
 can_spell kept ps h = record { rising = h.rising; each = each_can kept ps h.fits }
@@ -80,6 +80,6 @@ module _ (s : Schema) (last : Option (List ℕ)) (v : SplitView) (w : KeyWalk) (
     none_there ds p is =
         not_listed s ds p.keys key is.is_split.keys (stands_past_key last w key (terms_of s ds p.keys) is.is_split.dictionary.are_terms.rising (walk.only ds p is) past not_below elsewhere).looked
 
-    pub still_holds : (l : KeyList) (number : ℕ → Option ℕ) (ds : List Placed) (p : Parts) (ps : List Posting) → IsViewOf v s ds p → Holds l ps → Holds l (ps ++ renumbered number (posting_list s ds key))
-    still_holds l number ds p ps is h =
-        subst (λ (qs : List Posting). Holds l qs) (sym (append-nil ps) ∙ ap (λ (qs : List Posting). ps ++ renumbered number qs) (sym (none_there ds p is))) h
+    pub still_holds : (kept : Bool) (l : KeyList) (number : ℕ → Option ℕ) (ds : List Placed) (p : Parts) (ps : List Posting) → IsViewOf v s ds p → Holds kept l ps → Holds kept l (ps ++ renumbered number (posting_list s ds key))
+    still_holds kept l number ds p ps is h =
+        subst (λ (qs : List Posting). Holds kept l qs) (sym (append-nil ps) ∙ ap (λ (qs : List Posting). ps ++ renumbered number qs) (sym (none_there ds p is))) h

@@ -17,9 +17,9 @@ loop-turn-preserved c =
     let past = past_of c.args.schema.now stands.last c.args.views.now c.loop-turn.walks key stands.walks_are c.in-Some.ensures.some in
     record {
       count = omega (arith, c.loop-turn.invariant.count, c.in_ok-take-in-Ok.ensures.count);
-      stands = stands_next c.args.schema.now c.args.numbers.now c.args.views.now c.loop-turn.walks c.gather_key.new.walks c.loop-turn.terms c.take.new.self key c.gather_key.new.list stands c.in-Some.ensures.least
+      stands = stands_next c.args.schema.now c.args.numbers.now c.args.views.now c.loop-turn.walks c.gather_key.new.walks c.loop-turn.terms c.take.new.self key c.keeps_places-kept.result c.gather_key.new.list stands c.in-Some.ensures.least
           (c.in-Ok.ensures.walks c.args.schema.now stands.last c.keeps_places-kept.ensures past stands.walks_are c.in-Some.ensures.least)
-          (λ lists of. c.in-Ok.ensures.only c.args.schema.now stands.last lists c.keeps_places-kept.ensures past stands.walks_are c.in-Some.ensures.least of c.clear.ensures)
+          (λ lists of. c.in-Ok.ensures.only c.args.schema.now stands.last lists c.keeps_places-kept.ensures past stands.walks_are c.in-Some.ensures.least of (c.clear.ensures c.keeps_places-kept.result))
           (λ ds holds next so_far. c.in_ok-take-in-Ok.ensures.taken c.args.schema.now ds stands.last c.keeps_places-kept.ensures holds past next so_far);
     }
 
@@ -33,14 +33,11 @@ gather_key-requires-clause-numbers c = ap (λ (ts : List (List ℕ)). length ts)
 pub gather_key-requires-clause-walks : goal.gather_key-requires-clause-walks
 gather_key-requires-clause-walks c = let stands = c.loop-turn.invariant.stands in zip_length (IsWalkOf c.args.schema.now stands.last) c.args.views.now c.loop-turn.walks stands.walks_are
 
-pub take-requires-clause-room : goal.take-requires-clause-room
-take-requires-clause-room c = omega (arith, c.loop-turn.invariant.count, c.loop-turn-test.true)
-
-pub take-requires-clause-list : goal.take-requires-clause-list
-take-requires-clause-list c = c.in-Ok.ensures.can c.requires.numbers.0 c.requires.numbers.1 c.clear.ensures
+pub take-requires : goal.take-requires
+take-requires c = omega (arith, c.loop-turn.invariant.count, c.loop-turn-test.true)
 
 pub returns-in-Err-clause-cause : goal.returns-in-Err-clause-cause
 returns-in-Err-clause-cause c =
     let stands = c.loop-turn.invariant.stands in
     let past = past_of c.args.schema.now stands.last c.args.views.now c.loop-turn.walks c.in-Some.key.now stands.walks_are c.in-Some.ensures.some in
-    c.in-Err.ensures.cause c.args.schema.now stands.last c.keeps_places-kept.ensures past stands.walks_are c.in-Some.ensures.least c.clear.ensures
+    c.in-Err.ensures.cause c.args.schema.now stands.last c.keeps_places-kept.ensures past stands.walks_are c.in-Some.ensures.least
