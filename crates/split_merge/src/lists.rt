@@ -107,7 +107,9 @@ impl KeyList {
     ghost use Rattle.split_merge.specs.Joining.{Adds, CanSpell, Holds, renumbered, with_number};
 
     /// No documents.
-    pub(crate) fn vacant(alloc: Global) -> KeyList {
+    pub(crate) fn vacant(alloc: Global) -> KeyList
+        ensures { (kept : Bool) → Holds kept result [] }
+    {
         KeyList {
             entries: Vec::new(alloc),
             places: Vec::new(alloc),
