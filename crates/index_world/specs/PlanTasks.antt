@@ -1,11 +1,15 @@
--- The tasks that a plan takes along.
-use Rattle.std.specs.Prelude.{ℕ, List, [], ◌∷◌, Option, Some, None, drop, min, slice_get}
+-- The tasks up to an opstamp, and those that a plan takes along.
+use Rattle.std.specs.Prelude.{ℕ, List, [], ◌∷◌, Option, Some, None, drop, filter, min, nat_le, slice_get}
 use Rattle.delete_tasks.specs.Removes.{DeleteTask}
 use Rattle.meta_store.specs.declared.planning.Choice.{Choice}
 use Rattle.meta_store.specs.declared.planning.Choice.TheVariants as choices
 use Rattle.meta_store.specs.declared.planning.PlanRow.{PlanRow}
 use Rattle.meta_store.specs.declared.planning.RowWork.{RowWork}
 use Rattle.source_checkpoint.specs.declared.span.Span.{Span}
+
+-- those whose opstamps are at most this one, in their order
+abbrev pub tasks_upto : (upto : ℕ) → List DeleteTask → List DeleteTask
+tasks_upto upto tasks = filter (λ task. nat_le task.opstamp upto) tasks
 
 -- the least task behind which a record of these spans was taken in, and at most the last one: tasks up to it remove none
 abbrev pub least_of : (upto : ℕ) → List Span → ℕ

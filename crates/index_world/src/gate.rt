@@ -8,26 +8,28 @@ ghost use Rattle.meta_journal.specs.Spelling.{CanSpellFacts};
 ghost use Rattle.source_log.specs.Log.{Log};
 ghost use Rattle.meta_journal.specs.Places.{split_key};
 ghost use Rattle.object_store.specs.Store.{State, WhereTold};
-ghost use Rattle.index_world.specs.Answering.{Answered, marks_answered, moment_answered, stage_answered, upload_answered, publish_answered, replace_answered, raise_answered, task_answered, plan_answered, fetch_answered, mark_stale_answered, doom_answered, remove_answered, list_answered, sweep_answered};
+ghost use Rattle.index_world.specs.Answering.{Answered, marks_answered, moment_answered, stage_answered, upload_answered, publish_answered, replace_answered, raise_answered, task_answered, plan_answered, tasks_answered, fetch_answered, mark_stale_answered, doom_answered, remove_answered, list_answered, sweep_answered};
 ghost use Rattle.index_world.specs.Asked.{Behind, FetchesFile, IsFetch, IsUpload, UploadsFile};
 ghost use Rattle.index_world.specs.Calls.{asked, looked, asked_and_looked, fetched_from, upload_made};
 ghost use Rattle.index_world.specs.CallsMade.{CallMade, of_checkpoints, of_moment, of_stage, of_upload, of_publish, of_replace, of_raise, of_task, of_plan, of_fetch, of_mark_stale, of_doom, of_remove, of_sweep_list, of_sweep};
 ghost use Rattle.index_world.specs.Core.{Core, IsConfigured, IsUnusedIn, Nobody};
 ghost use Rattle.index_world.specs.Collected.{SweepsFile};
 ghost use Rattle.index_world.specs.Collecting.{doom_call, IsSweepPage, list_call, mark_stale_call, remove_call, sweep_call};
-ghost use Rattle.index_world.specs.Gate.{CanAddTask, Does, DoesWith, IsGiven, IsReceipt, raise_call, replace_call, task_call, fetched_more, grace_of, IsSoundCore, IsTrouble, IsUnmade, IsUnfetched, AreMarks, IsMoment, stage_call, WasStaged, WasUploaded, publish_call, IsPublishable, IsRevision, IsPlan, IsPieceGiven};
+ghost use Rattle.index_world.specs.Gate.{CanAddTask, Does, DoesWith, Looked, IsGiven, IsReceipt, raise_call, replace_call, task_call, fetched_more, grace_of, IsSoundCore, IsTrouble, IsUnmade, IsUnfetched, AreMarks, IsMoment, stage_call, WasStaged, WasUploaded, publish_call, IsPublishable, IsRevision, IsPlan, IsPieceGiven};
 ghost use Rattle.index_world.specs.Replacing.{IsRaisable, IsReplaceable, numbers_of};
 ghost use Rattle.index_world.specs.World.{GoesFor};
 ghost use Rattle.meta_store.specs.declared.planning.PlanRow.{PlanRow};
 
 use crate::tokens::{DeleteAsk, Marks, Plan, Receipt, Staged, SweepPage, Uploaded};
 use crate::world_error::WorldError;
+use byte_fields::List;
+use delete_tasks::Task;
 use index_config::IndexConfig;
 use meta_store::Choice;
 use object_store::{Key, Piece};
 use source_checkpoint::Delta;
 use split_states::RowFacts;
-use std::alloc::Global;
+use std::alloc::{AllocError, Global};
 
 /// The calls of the actors to one world. Each is one event.
 pub trait Gate {
@@ -71,6 +73,15 @@ pub trait Gate {
     /// How many bytes were fetched through this gate since it was made, at most 2^128 - 1. It is no event.
     fn fetched_bytes(&self) -> u128
         ensures { result ≡ bytes_fetched self.now };
+
+    /// Copies of the tasks whose opstamps are at most `upto`, in their order, at the call's turn. It is no event: nothing is settled, and
+    /// no call of the store is made.
+    fn tasks(&mut self, alloc: Global, upto: u64) -> Result<List<Task>, AllocError>
+        ensures later { since self.old self.new }
+        ensures answered { Answers self.old (tasks_answered upto result) self.new }
+        ensures same { bytes_fetched self.new ≡ bytes_fetched self.old }
+        ensures step { (core : Core) (log : Log) → Stands self.old core log →
+            Looked Stands Between Owns Adds upto result core log self.old self.new };
 
     /// The checkpoints, the last opstamp and the revision.
     fn checkpoints(&mut self, alloc: Global) -> Result<Marks, WorldError>

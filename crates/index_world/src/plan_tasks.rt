@@ -1,4 +1,4 @@
-//! The tasks that a plan takes along.
+//! Copies of the tasks: those up to an opstamp, and those that a plan takes along.
 
 ghost use Rattle.std.specs.Prelude.{◌≡◌, IfOk, drop, slice_get};
 ghost use Rattle.index_world.specs.PlanTasks as spec;
@@ -58,6 +58,23 @@ fn copied_tasks(alloc: Global, tasks: &[Task]) -> Result<List<Task>, AllocError>
     let mut copies = List::vacant(alloc);
     for task in tasks {
         copies.push(copied_task(alloc, task)?)?;
+    }
+    Ok(copies)
+}
+
+/// Copies of the tasks whose opstamps are at most `upto`, in their order.
+pub(crate) fn copied_upto(
+    alloc: Global,
+    tasks: &[Task],
+    upto: u64,
+) -> Result<List<Task>, AllocError>
+    ensures { IfOk result (λ copies. copies ≡ spec.tasks_upto upto tasks.now) }
+{
+    let mut copies = List::vacant(alloc);
+    for task in tasks {
+        if task.opstamp <= upto {
+            copies.push(copied_task(alloc, task)?)?;
+        }
     }
     Ok(copies)
 }

@@ -20,7 +20,8 @@ ghost use Rattle.index_world.specs.Created.{CreatesIndex, CreatesNot, CreatesWor
 ghost use Rattle.index_config.specs.Answer.{config_answer};
 ghost use Rattle.index_world.specs.Collected.{SweepsFile};
 ghost use Rattle.index_world.specs.Collecting.{is_swept_by, doom_call, IsSweepPage, list_call, mark_stale_call, remove_call, sweep_call};
-ghost use Rattle.index_world.specs.Gate.{Acts, ActsWith, CanAddTask, IsGiven, IsReceipt, raise_call, replace_call, task_call, grace_of, IsTrouble, IsUnmade, IsUnfetched, AreMarks, IsMoment, stage_call, WasStaged, WasUploaded, publish_call, IsPublishable, IsRevision, IsPlan, IsPieceGiven};
+ghost use Rattle.index_world.specs.Gate.{Acts, ActsWith, AreTasksUpto, CanAddTask, IsGiven, IsReceipt, raise_call, replace_call, task_call, grace_of, IsTrouble, IsUnmade, IsUnfetched, AreMarks, IsMoment, stage_call, WasStaged, WasUploaded, publish_call, IsPublishable, IsRevision, IsPlan, IsPieceGiven};
+ghost use Rattle.index_world.specs.PlanTasks.{tasks_upto};
 ghost use Rattle.index_world.specs.Replacing.{IsRaisable, IsReplaceable, numbers_of};
 ghost use Rattle.index_world.specs.Loading.{LoadsWorld, LoadsNone, LoadsAnew};
 ghost use Rattle.index_world.specs.Taking.{IsFaultBetween};
@@ -33,11 +34,13 @@ use crate::life::Life;
 use crate::listing::{PAGE, is_swept, swept_page};
 use crate::next_doomed::next_doomed;
 use crate::own::Own;
-use crate::plan_tasks::plan_tasks;
+use crate::plan_tasks::{copied_upto, plan_tasks};
 use crate::steady::SteadyClock;
 use crate::taking::{create_error, get_error, list_error, open};
 use crate::tokens::{DeleteAsk, Marks, Plan, Receipt, Staged, SweepPage, Uploaded};
 use crate::world_error::WorldError;
+use byte_fields::List;
+use delete_tasks::Task;
 use index_config::IndexConfig;
 use meta_journal::{split_key, split_prefix};
 use meta_store::{Choice, Meta};
@@ -228,6 +231,15 @@ impl<S: ObjectStore, C: SteadyClock> World<S, C> {
         ensures step { (core : Core) (log : Log) → WorldStands self.now core log → IsConfigured result.now core }
     {
         self.life.config()
+    }
+
+    /// Copies of the tasks whose opstamps are at most `upto`, in their order.
+    pub fn tasks(&self, alloc: Global, upto: u64) -> Result<List<Task>, AllocError>
+        // Over every store, sound or not: those that the world keeps.
+        ensures value { IfOk result (λ tasks. tasks ≡ tasks_upto upto self.now.meta.tasks) }
+        ensures step { (core : Core) (log : Log) → WorldStands self.now core log → IfOk result (λ tasks. AreTasksUpto upto tasks core) }
+    {
+        copied_upto(alloc, self.life.meta.tasks().as_slice(), upto)
     }
 
     // Whether files that were marked behind a plan of this moment may be gone.
