@@ -30,6 +30,7 @@ use Rattle.index_world.specs.Config.{reads}
 use Rattle.index_world.specs.Core.{is_in}
 use Rattle.index_world.specs.Configuration.{config_or, index_of}
 use Rattle.index_world.specs.Index.{max_entries}
+use Rattle.index_world.specs.PlanTasks.{plan_tasks}
 use Rattle.index_world.specs.Taking.{IsFaultBetween}
 use Rattle.index_world.specs.World.{Keeping}
 use Rattle.index_world.specs.declared.tokens.DeleteAsk.{DeleteAsk}
@@ -177,6 +178,7 @@ pub record IsPlanOf (choice : Choice) (plan : Plan) (world : Keeping) : Type 0 w
   pub moment : plan.moment ≡ world.moment
   pub upto : plan.upto ≡ world.meta.last_opstamp
   pub rows : plan.rows ≡ map (planned_as choice) (rows_for world.meta.config choice world.moment world.meta.last_opstamp world.meta.rows)
+  pub tasks : plan.tasks ≡ plan_tasks choice plan.upto plan.rows world.meta.tasks
   pub settled : world.unsure ≡ false
 
 abbrev pub SaysPlanned : Choice → Result Plan WorldError → Keeping → State → Type 0

@@ -15,6 +15,7 @@ use Rattle.source_log.specs.Log.{Log}
 use Rattle.split_states.specs.declared.facts.RowFacts.{RowFacts}
 use Rattle.index_world.specs.Config.{reads}
 use Rattle.meta_store.specs.Planning.{rows_for, planned_as}
+use Rattle.meta_store.specs.Ledgers.{ledger}
 use Rattle.meta_store.specs.Readings.{config_of}
 use Rattle.meta_store.specs.declared.planning.Choice.{Choice}
 use Rattle.index_world.specs.declared.tokens.DeleteAsk.{DeleteAsk}
@@ -27,6 +28,7 @@ use Rattle.index_world.specs.declared.world_error.WorldError.{WorldError}
 use Rattle.index_world.specs.declared.world_error.WorldError.TheVariants as errors
 use Rattle.index_world.specs.Core.{Core, file_at, journal_of, IsConfigured, IsUnusedIn, IsUploadedIn, HasStagedIn}
 use Rattle.index_world.specs.Index.{has_staged, IsMade}
+use Rattle.index_world.specs.PlanTasks.{plan_tasks}
 use Rattle.index_world.specs.Calls.{Fate, Grace, Gives, gives, Trouble, faulted, no_memory, store_fault, is_foreign, is_full, is_expired, Unmade, refused, troubled, Unfetched, absent, hindered, appended}
 use Rattle.index_world.specs.CallsMade.{Ask, CallMade, IsRecorded, IsShort}
 use Rattle.index_world.specs.World.{IsWorld, IsTimely, GoesOn}
@@ -208,6 +210,8 @@ pub record IsPlan (choice : Choice) (plan : Plan) (core : Core) : Type 0 where
   pub moment : plan.moment ≡ core.moment
   pub upto : plan.upto ≡ last_opstamp (history core.history)
   pub rows : plan.rows ≡ map (planned_as choice) (rows_for (config_of reads (history core.history)) choice core.moment (last_opstamp (history core.history)) (rows (history core.history)))
+  -- those that were added up to here
+  pub tasks : plan.tasks ≡ plan_tasks choice plan.upto plan.rows (ledger reads (history core.history)).tasks
 
 -- these are so many bytes of the number's file from a place on, and its size
 abbrev pub IsPieceGiven : (number from len : ℕ) → Piece → Core → Type 0

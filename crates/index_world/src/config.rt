@@ -39,16 +39,6 @@ fn settings_of(alloc: Global, config: &[u8]) -> Result<Result<Settings, ConfigEr
     }
 }
 
-// Of an act without a configuration nothing is read.
-fn config_said(alloc: Global, act: &Act) -> Result<Result<Settings, ConfigError>, AllocError>
-    ensures { IfOk result (λ said. said ≡ meta.config_said spec.reads act.now) }
-{
-    match act {
-        Act::Create { config } => settings_of(alloc, config.as_slice()),
-        _ => Ok(Err(ConfigError::NotToml)),
-    }
-}
-
 fn number_of(fields: &[Field], path: &[u8]) -> Option<usize>
     ensures { result ≡ number_of fields.now path.now }
 {
@@ -168,6 +158,7 @@ fn unless_short(read: Result<Query, QueryError>) -> Result<Result<Query, QueryEr
 }
 
 // Before there is a configuration no task is read.
+#[inline(never)]
 fn query_said(
     alloc: Global,
     config: &Option<Config>,
@@ -182,7 +173,9 @@ fn query_said(
     }
 }
 
-/// What the readers of texts say of an entry, under the configuration so far.
+/// What the readers of texts say of an entry, under the configuration so far. A call of its own, so that who goes through
+/// many entries doesn't clear and copy the places of a configuration and of a query for each.
+#[inline(never)]
 pub fn reading_of(
     alloc: Global,
     config: &Option<Config>,
@@ -191,6 +184,13 @@ pub fn reading_of(
     ensures { IfOk result (λ reading. reading ≡ meta.reading_of spec.reads config.now entry.now.act) }
 {
     match &entry.act {
+        Act::Create { config } => {
+            let config = settings_of(alloc, config.as_slice())?;
+            Ok(Reading {
+                config,
+                query: Err(QueryError::Syntax { at: 0 }),
+            })
+        }
         Act::Task { text, fields, .. } => {
             let query = query_said(alloc, config, text.as_slice(), fields.as_slice())?;
             Ok(Reading {
@@ -198,13 +198,10 @@ pub fn reading_of(
                 query,
             })
         }
-        act => {
-            let config = config_said(alloc, act)?;
-            Ok(Reading {
-                config,
-                query: Err(QueryError::Syntax { at: 0 }),
-            })
-        }
+        _ => Ok(Reading {
+            config: Err(ConfigError::NotToml),
+            query: Err(QueryError::Syntax { at: 0 }),
+        }),
     }
 }
 

@@ -7,7 +7,6 @@ use crate::steady::SteadyClock;
 use crate::tokens::{DeleteAsk, Marks, Plan, Receipt, Staged, SweepPage, Uploaded};
 use crate::world::World;
 use crate::world_error::WorldError;
-use delete_tasks::Task;
 use index_config::IndexConfig;
 use meta_store::Choice;
 use object_store::{Key, ObjectStore, Piece};
@@ -61,8 +60,6 @@ impl<S: ObjectStore, C: SteadyClock> Gate for Direct<S, C> {
 
     ghost configured = { λ direct. config_kept direct.world };
 
-    ghost tasks_kept = { λ direct. direct.world.meta.tasks };
-
     ghost bytes_fetched = { λ direct. direct.fetched };
 
     ghost told = { λ direct. direct.world.told };
@@ -89,10 +86,6 @@ impl<S: ObjectStore, C: SteadyClock> Gate for Direct<S, C> {
 
     fn config(&self) -> &IndexConfig {
         self.world.config()
-    }
-
-    fn tasks(&self, behind: u64) -> &[Task] {
-        self.world.tasks(behind)
     }
 
     fn fetched_bytes(&self) -> u128 {

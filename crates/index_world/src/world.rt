@@ -1,6 +1,6 @@
 //! One life of a world: its store, journal, state and clock. Each call is one event.
 
-ghost use Rattle.std.specs.Prelude.{◌≡◌, ◌<◌, ◌^◌, ℕ, List, IfOk, IfErr, IsOk, MatchResult, None, Some, drop, length, slice_get, max, true, false, IfSome, nat_le, ◌+◌};
+ghost use Rattle.std.specs.Prelude.{◌≡◌, ◌<◌, ◌^◌, ℕ, List, IfOk, IfErr, IsOk, MatchResult, None, Some, length, slice_get, max, true, false, IfSome, nat_le, ◌+◌};
 ghost use Rattle.std.specs.Borrow.{Lends, sem};
 ghost use Rattle.std.specs.List.{AllByRecursion};
 ghost use Rattle.std.specs.Option.{option_copied};
@@ -33,11 +33,11 @@ use crate::life::Life;
 use crate::listing::{PAGE, is_swept, swept_page};
 use crate::next_doomed::next_doomed;
 use crate::own::Own;
+use crate::plan_tasks::plan_tasks;
 use crate::steady::SteadyClock;
 use crate::taking::{create_error, get_error, list_error, open};
 use crate::tokens::{DeleteAsk, Marks, Plan, Receipt, Staged, SweepPage, Uploaded};
 use crate::world_error::WorldError;
-use delete_tasks::Task;
 use index_config::IndexConfig;
 use meta_journal::{split_key, split_prefix};
 use meta_store::{Choice, Meta};
@@ -207,6 +207,13 @@ impl<S: ObjectStore, C: SteadyClock> World<S, C> {
         &mut self.clock
     }
 
+    /// The count of the store's faults.
+    pub fn faults(&self) -> u64
+        ensures { result ≡ self.now.store_faults }
+    {
+        self.store.faults()
+    }
+
     /// The state.
     pub fn meta(&self) -> &Meta
         ensures { result.now.state ≡ self.now.meta }
@@ -221,15 +228,6 @@ impl<S: ObjectStore, C: SteadyClock> World<S, C> {
         ensures step { (core : Core) (log : Log) → WorldStands self.now core log → IsConfigured result.now core }
     {
         self.life.config()
-    }
-
-    /// The tasks behind this one, in their order.
-    pub fn tasks(&self, behind: u64) -> &[Task]
-        ensures { result.now ≡ drop behind self.now.meta.tasks }
-    {
-        let tasks = self.life.meta.tasks().as_slice();
-        let from = behind.min(tasks.len() as u64) as usize;
-        &tasks[from..]
     }
 
     // Whether files that were marked behind a plan of this moment may be gone.
@@ -542,7 +540,7 @@ impl<S: ObjectStore, C: SteadyClock> World<S, C> {
         })
     }
 
-    /// Plans rows over the newest state.
+    /// Plans rows over the newest state. For deletes it takes along the tasks of which some may remove a document of its row.
     pub fn plan(&mut self, alloc: Global, choice: &Choice) -> Result<Plan, WorldError>
         ensures step { (core : Core) (log : Log) → WorldStands self.old core log →
             Acts WorldStands None asked_and_looked IsTrouble (IsPlan choice.now) result core log self.new }
@@ -553,11 +551,15 @@ impl<S: ObjectStore, C: SteadyClock> World<S, C> {
         self.ask();
         self.life.settle(alloc, &mut self.store, before)?;
         let life = &self.life;
+        let upto = life.meta.last_opstamp();
+        let rows = life.meta.plan_rows(alloc, choice, life.moment)?;
+        let all = life.meta.tasks().as_slice();
         Ok(Plan {
             revision: life.meta.revision(),
             moment: life.moment,
-            upto: life.meta.last_opstamp(),
-            rows: life.meta.plan_rows(alloc, choice, life.moment)?,
+            upto,
+            tasks: plan_tasks(alloc, choice, upto, rows.as_slice(), all)?,
+            rows,
         })
     }
 

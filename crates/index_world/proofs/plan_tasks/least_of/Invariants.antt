@@ -1,6 +1,6 @@
 use Rattle.std.proofs.Common.{◌≡◌, ◌≤◌, drop, min}
-use Rattle.upkeep_run.specs.Dropping.{least_of}
-use Rattle.upkeep_run.proofs.dropping.least_of.Given as goal
+use Rattle.index_world.specs.PlanTasks.{least_of}
+use Rattle.index_world.proofs.plan_tasks.least_of.Given as goal
 
 abbrev pub invariant-loop-span : goal.invariant-loop-span
 invariant-loop-span l = record {

@@ -1,8 +1,7 @@
 use Rattle.std.proofs.Common.{◌≡◌, ◌≤◌, ◌<◌, ◌-◌, ℕ, Bool, true, false, List, length, min, drop, nat_le, refl, sym, ap, ◌∙◌, arith}
 use Rattle.std.proofs.lemmas.Bool.{leb-true, leb-false}
 use Rattle.std.proofs.lemmas.List.{drop_all, length-drop, take_all}
-use Rattle.index_world.specs.World.{Keeping}
-use Rattle.index_world.proofs.world.World.tasks.Goals as goal
+use Rattle.index_world.proofs.plan_tasks.tasks_behind.Goals as goal
 
 drop_least : {X : Type 0} (b : ℕ) (xs : List X) → drop (min b (length xs)) xs ≡ drop b xs
 drop_least {X} b xs = by (nat_le b (length xs)) refl
@@ -14,8 +13,6 @@ drop_least {X} b xs = by (nat_le b (length xs)) refl
         drop_all (min b (length xs)) xs (omega (arith, lt)) ∙ sym (drop_all b xs (omega (arith, lt)))
 
 pub returns : goal.returns
-returns g c =
-    let tasks = c.as_slice-tasks.result.now in
-    let few : length (drop c.min-from.result tasks) ≤ length tasks - c.min-from.result = let e = length-drop c.min-from.result tasks in omega (arith, e) in
-    take_all (length tasks - c.min-from.result) (drop c.min-from.result tasks) few ∙ ap (λ (n : ℕ). drop n tasks) c.min-from.ensures ∙ drop_least c.args.behind tasks
-    ∙ ap (drop c.args.behind) (c.as_slice-tasks.ensures ∙ c.tasks.ensures ∙ ap (λ (k : Keeping). k.meta.tasks) c.self.view_is)
+returns c =
+    let few : length (drop c.min-from.result c.args.tasks.now) ≤ length c.args.tasks.now - c.min-from.result = let e = length-drop c.min-from.result c.args.tasks.now in omega (arith, e) in
+    take_all (length c.args.tasks.now - c.min-from.result) (drop c.min-from.result c.args.tasks.now) few ∙ ap (λ (n : ℕ). drop n c.args.tasks.now) c.min-from.ensures ∙ drop_least c.args.behind c.args.tasks.now
