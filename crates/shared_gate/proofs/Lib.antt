@@ -1,0 +1,10 @@
+pub mod Recording
+pub mod Lives
+pub mod Owners
+pub mod Premises
+pub mod Turning
+pub mod Doing
+pub mod Plain
+pub mod Staging
+pub mod Rooms
+pub mod Fetching
