@@ -10,4 +10,4 @@ returns-in-Err g c = inl (unheard c.in-Err.error c.args.home.now c.args.self.now
 
 pub returns-in-Ok : goal.returns-in-Ok
 returns-in-Ok g c = inr (entered (of_task c.args.ask.now) None None (task_act c.args.ask.now c.add_task-receipt.result) _ c.args.home.now c.note.new.home c.args.self.now c.begin.new.self _ _ c.note.ensures c.in-Ok.ensures.clock c.in-Ok.ensures.same (refl, refl, refl)
-    ((λ core log s given. c.add_task-receipt.ensures.step core log s), c.add_task-receipt.ensures.answers) (record { is = ap of_task (sym c.of-ask.ensures); staged_is = refl; uploaded_is = refl }))
+    ((λ core log s given. c.add_task-receipt.ensures.step core log s), c.add_task-receipt.ensures.answers) (record { is = ap of_task (sym c.of.ensures); staged_is = refl; uploaded_is = refl }))

@@ -11,4 +11,4 @@ returns-in-Err g c row found = inl (unheard c.in-Err.error c.args.home.now c.arg
 
 pub returns-in-Ok : goal.returns-in-Ok
 returns-in-Ok g c row found = inr (entered (of_fetch row.number c.args.from c.args.len) None None (fetch_act c.args.plan.now row.number c.args.from c.args.len c.fetch-piece.result) _ c.args.home.now c.note.new.home c.args.self.now c.begin.new.self _ _ c.note.ensures c.in-Ok.ensures.clock c.in-Ok.ensures.same (refl, refl, refl)
-    ((record { config = c.config-_config.result.now; configured = c.config-_config.ensures.step; acts = λ core log s given. c.fetch-piece.ensures.step core log c.config-_config.result.now row s (c.config-_config.ensures.step core log s) found }), (c.fetch-piece.ensures.kinds row found, c.fetch-piece.ensures.time, (c.fetch-piece.ensures.faults, c.fetch-piece.ensures.answers row found))) (record { is = ap (λ (r : PlanRow). of_fetch r.number c.args.from c.args.len) (let same : Some c.at.result.now ≡ Some row = sym c.at.ensures ∙ found in let is : c.at.result.now ≡ row = cc same in sym is); staged_is = refl; uploaded_is = refl }))
+    ((record { config = c.config-config.result.now; configured = c.config-config.ensures.step; acts = λ core log s given. c.fetch-piece.ensures.step core log c.config-config.result.now row s (c.config-config.ensures.step core log s) found }), (c.fetch-piece.ensures.kinds row found, c.fetch-piece.ensures.time, (c.fetch-piece.ensures.faults, c.fetch-piece.ensures.answers row found))) (record { is = ap (λ (r : PlanRow). of_fetch r.number c.args.from c.args.len) (let same : Some c.at.result.now ≡ Some row = sym c.at.ensures ∙ found in let is : c.at.result.now ≡ row = cc same in sym is); staged_is = refl; uploaded_is = refl }))

@@ -10,4 +10,4 @@ returns-in-Err g c = inl (unheard c.in-Err.error c.args.home.now c.args.self.now
 
 pub returns-in-Ok : goal.returns-in-Ok
 returns-in-Ok g c = inr (entered (of_plan c.args.choice.now) None None (plan_act c.args.choice.now c.plan-plan.result) _ c.args.home.now c.note.new.home c.args.self.now c.begin.new.self _ _ c.note.ensures c.in-Ok.ensures.clock c.in-Ok.ensures.same (refl, refl, refl)
-    ((λ core log s given. c.plan-plan.ensures.step core log s), c.plan-plan.ensures.answers) (record { is = ap of_plan (sym c.of-choice.ensures); staged_is = refl; uploaded_is = refl }))
+    ((λ core log s given. c.plan-plan.ensures.step core log s), c.plan-plan.ensures.answers) (record { is = ap of_plan (sym c.of.ensures); staged_is = refl; uploaded_is = refl }))

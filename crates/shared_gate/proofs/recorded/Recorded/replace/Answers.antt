@@ -12,4 +12,4 @@ returns-in-Err g c = inl (unheard c.in-Err.error c.args.home.now c.args.self.now
 
 pub returns-in-Ok : goal.returns-in-Ok
 returns-in-Ok g c = inr (entered (of_replace c.args.uploaded.number (numbers_of c.args.plan.now.rows) c.args.upto) None None (replace_act c.args.uploaded.number (numbers_of c.args.plan.now.rows) c.args.upto c.replace-revision.result) _ c.args.home.now c.note.new.home c.args.self.now c.begin.new.self _ _ c.note.ensures c.in-Ok.ensures.clock c.in-Ok.ensures.same (refl, refl, refl)
-    ((λ core log s given. c.replace-revision.ensures.step core log s given), c.replace-revision.ensures.answers) (record { is = ap (λ (p : Planned). of_replace c.args.uploaded.number (numbers_of p.rows) c.args.upto) (sym c.of-plan.ensures); staged_is = refl; uploaded_is = refl }))
+    ((λ core log s given. c.replace-revision.ensures.step core log s given), c.replace-revision.ensures.answers) (record { is = ap (λ (p : Planned). of_replace c.args.uploaded.number (numbers_of p.rows) c.args.upto) (sym c.of.ensures); staged_is = refl; uploaded_is = refl }))

@@ -10,4 +10,4 @@ returns-in-Err g c = inl (unheard c.in-Err.error c.args.home.now c.args.self.now
 
 pub returns-in-Ok : goal.returns-in-Ok
 returns-in-Ok g c = inr (entered (of_stage c.args.delta.now c.args.facts.now) (number_given c.stage-staged.result) None (stage_act c.args.delta.now c.args.facts.now c.stage-staged.result) _ c.args.home.now c.note.new.home c.args.self.now c.begin.new.self _ _ c.note.ensures c.in-Ok.ensures.clock c.in-Ok.ensures.same (refl, refl, refl)
-    ((λ core log s given. c.stage-staged.ensures.step core log s), c.stage-staged.ensures.answers) (record { is = λ i. of_stage (sym c.of-delta.ensures i) (sym c.of-facts.ensures i); staged_is = c.number_given-number.ensures; uploaded_is = refl }))
+    ((λ core log s given. c.stage-staged.ensures.step core log s), c.stage-staged.ensures.answers) (record { is = λ i. of_stage (sym c.of.ensures i) (sym c.of-in-Ok.ensures i); staged_is = c.number_given-number.ensures; uploaded_is = refl }))
