@@ -8,3 +8,4 @@ pub mod Plain
 pub mod Staging
 pub mod Rooms
 pub mod Fetching
+pub mod Sending

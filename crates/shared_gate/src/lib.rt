@@ -2,6 +2,7 @@
 #![tactic(auto)]
 
 mod call;
+pub mod crossing;
 mod recorded;
 mod shared;
 
