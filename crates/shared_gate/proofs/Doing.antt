@@ -1,5 +1,5 @@
 -- What a call of one of many says, from what its world's own call did.
-use Rattle.std.proofs.Common.{◌≡◌, ◌⊎◌, ◌<◌, ◌≤◌, ◌+◌, ◌-◌, ◌^◌, ℕ, zero, suc, Bool, true, false, List, [], ◌∷◌, ◌++◌, length, slice_get, refl, sym, ap, ◌∙◌, subst, inl, inr, arith, append-nil, length-append}
+use Rattle.std.proofs.Common.{◌≡◌, ◌⊎◌, ◌≤◌, ◌+◌, ◌-◌, ℕ, List, [], ◌∷◌, ◌++◌, length, slice_get, refl, sym, ap, ◌∙◌, subst, inl, inr, arith, length-append}
 use Rattle.std.specs.Prelude.{Option, Some, None, IsSome, Result, Ok, Err, ⊤}
 use Rattle.std.specs.declared.alloc.AllocError.{AllocError}
 use mathlib.Core.List.{IsPrefix}
@@ -13,20 +13,20 @@ use Rattle.index_world.specs.Asked.{Behind}
 use Rattle.index_world.specs.Calls.{Fate, Gives, gives}
 use Rattle.index_world.specs.CallsMade.{Ask, CallMade, IsRecorded, IsShort, made_of}
 use Rattle.index_world.specs.Core.{Core, IsConfigured, IsOther, IsUnusedIn, last_count}
-use Rattle.index_world.specs.Gate.{Acts, ActsWith, Does, DoesWith, Says, SaysWith}
-use Rattle.index_world.specs.World.{GoesOn, Keeping, WorldStands}
+use Rattle.index_world.specs.Gate.{Does, DoesWith, Says, SaysWith}
+use Rattle.index_world.specs.World.{Keeping, WorldStands}
 use Rattle.index_world.specs.DirectLaws.{stays_as_is}
 use Rattle.index_world.specs.declared.world_error.WorldError.{WorldError}
 use Rattle.index_world.specs.declared.world_error.WorldError.TheVariants as errors
 use Rattle.index_world.proofs.Gates.{clocked}
-use Rattle.shared_gate.specs.Recording.{Acting, ActingWith, Answering, Begun, Entered, IsNewNumber, RanBy, Records, TellsOn, Unheard, WasStagedBy, base_of, clocked_at, last_world, set_to}
-use Rattle.shared_gate.specs.Sharing.{AtPlaces, HasCall, IsUnheard, Passes, Seat, SeatAdds, SeatAnswers, SeatBegins, SeatOwns, SeatSince, SeatStands, last_core, seat_told, world_of}
+use Rattle.shared_gate.specs.Recording.{Acting, ActingWith, Answering, Entered, IsNewNumber, RanBy, Records, TellsOn, Unheard, WasStagedBy, base_of, clocked_at, last_world, set_to}
+use Rattle.shared_gate.specs.Sharing.{IsUnheard, Passes, Seat, SeatAdds, SeatAnswers, SeatBegins, SeatOwns, SeatSince, SeatStands, last_core, seat_told, world_of}
 use Rattle.shared_gate.specs.declared.recorded.Recorded.{Recorded}
 use Rattle.shared_gate.specs.declared.recorded.Event.{Event}
 use Rattle.shared_gate.proofs.Lives.{tells_on}
 use Rattle.shared_gate.proofs.Owners.{IsLent, Met, lent_is, meets, unseen}
-use Rattle.shared_gate.proofs.Premises.{Carries, sure_of}
-use Rattle.shared_gate.proofs.Turning.{GivenBack, Went, entered_back, last_at, unheard_back}
+use Rattle.shared_gate.proofs.Premises.{Carries}
+use Rattle.shared_gate.proofs.Turning.{GivenBack, entered_back, last_at, unheard_back}
 
 -- ---- what an answer says of telling
 

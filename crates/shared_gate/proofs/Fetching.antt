@@ -1,7 +1,6 @@
 -- A fetch of one of many, under the configuration that the world has.
-use Rattle.std.proofs.Common.{◌≡◌, ◌⊎◌, ◌≤◌, ℕ, refl, sym, ap, ◌∙◌, subst, inl, inr}
+use Rattle.std.proofs.Common.{◌≡◌, ◌⊎◌, ℕ, refl, sym, ◌∙◌, subst, inl, inr}
 use Rattle.std.specs.Prelude.{Option, Some, None, Result}
-use Rattle.std.specs.declared.alloc.AllocError.{AllocError}
 use Rattle.index_config.specs.declared.config.IndexConfig.{IndexConfig}
 use Rattle.object_store.specs.declared.store.Piece.{Piece}
 use Rattle.source_log.specs.Log.{Log}
@@ -10,7 +9,7 @@ use Rattle.index_world.specs.Calls.{fetched_from}
 use Rattle.index_world.specs.CallsMade.{of_fetch}
 use Rattle.index_world.specs.Core.{Core, IsConfigured}
 use Rattle.index_world.specs.Gate.{Does, grace_of, IsPieceGiven, IsUnfetched}
-use Rattle.index_world.specs.World.{Keeping, WorldStands}
+use Rattle.index_world.specs.World.{Keeping}
 use Rattle.index_world.specs.declared.tokens.Plan.{Plan}
 use Rattle.index_world.specs.declared.world_error.WorldError.{WorldError}
 use Rattle.index_world.proofs.Gates.{clocked}

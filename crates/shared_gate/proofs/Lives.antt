@@ -1,14 +1,13 @@
 -- Lists of calls, from one world to a later one.
-use Rattle.std.proofs.Common.{◌≡◌, ◌≢◌, ◌⊎◌, ◌<◌, ℕ, zero, suc, List, [], ◌∷◌, ◌++◌, length, slice_get, refl, sym, ap, ◌∙◌, subst, inl, inr, arith, true}
-use Rattle.std.specs.Prelude.{Option, Some, None, IsSome, ⊤}
+use Rattle.std.proofs.Common.{◌≡◌, ◌<◌, ℕ, zero, suc, List, [], ◌∷◌, ◌++◌, slice_get, refl, sym, ap, ◌∙◌, arith}
+use Rattle.std.specs.Prelude.{Option, Some, None}
 use Rattle.source_log.specs.Log.{Log}
 use Rattle.source_checkpoint.specs.declared.delta.Part.{Part}
 use Rattle.split_states.specs.declared.facts.RowFacts.{RowFacts}
-use Rattle.index_world.specs.Core.{Core, HasStagedIn, IsUnusedIn, IsOther, journal_of, Nobody}
-use Rattle.index_world.specs.Index.{has_staged}
-use Rattle.index_world.specs.World.{Keeping, WorldStands, GoesFor, GoesOn}
+use Rattle.index_world.specs.Core.{Core, HasStagedIn, IsUnusedIn, IsOther, Nobody}
+use Rattle.index_world.specs.World.{Keeping, WorldStands}
 use Rattle.index_world.proofs.InCore.{goes_less}
-use Rattle.shared_gate.specs.Recording.{IsLinked, IsNewNumber, Leads, Led, TellsOn, clocked_at, last_world, staged_by, uploaded_by}
+use Rattle.shared_gate.specs.Recording.{IsLinked, Leads, TellsOn, last_world, staged_by, uploaded_by}
 use Rattle.shared_gate.specs.Sharing.{IsLife, Step, last_core}
 use Rattle.shared_gate.specs.declared.recorded.Event.{Event}
 

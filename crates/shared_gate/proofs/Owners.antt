@@ -1,6 +1,6 @@
 -- Nobody else uploads under a number that one staged.
-use Rattle.std.proofs.Common.{◌≡◌, ◌⊎◌, ◌<◌, ◌≤◌, ◌+◌, ◌-◌, ℕ, zero, suc, List, [], ◌∷◌, ◌++◌, length, slice_get, refl, sym, ap, ◌∙◌, subst, inl, inr, arith}
-use Rattle.std.specs.Prelude.{Option, Some, None, ⊤}
+use Rattle.std.proofs.Common.{◌≡◌, ◌<◌, ◌≤◌, ◌+◌, ℕ, zero, suc, List, [], ◌∷◌, ◌++◌, length, slice_get, refl, sym, ap, ◌∙◌, subst, arith}
+use Rattle.std.specs.Prelude.{Option, Some}
 use mathlib.Core.List.{IsPrefix}
 use Rattle.source_log.specs.Log.{Log}
 use Rattle.source_checkpoint.specs.declared.delta.Part.{Part}
@@ -8,7 +8,7 @@ use Rattle.split_states.specs.declared.facts.RowFacts.{RowFacts}
 use Rattle.turn_lock.specs.Counts.{times}
 use Rattle.index_world.specs.Core.{Core, HasStagedIn, IsUnusedIn, Nobody}
 use Rattle.index_world.specs.World.{Keeping, WorldStands, GoesFor}
-use Rattle.shared_gate.specs.Recording.{Begun, IsLinked, IsStanding, WasStagedBy, last_world, uploaded_by}
+use Rattle.shared_gate.specs.Recording.{Begun, IsLinked, IsStanding, last_world, uploaded_by}
 use Rattle.shared_gate.specs.Sharing.{IsHome, IsLife, Seat, SeatBegins, SeatOwns, SeatStands, Step, last_core, world_of}
 use Rattle.shared_gate.specs.SharedLaws.{life_goes, staged_on}
 use Rattle.shared_gate.specs.declared.recorded.Event.{Event}

@@ -1,15 +1,9 @@
 -- The clauses of one call, from the turn that it took.
-use Rattle.std.proofs.Common.{◌≡◌, ◌⊎◌, ◌<◌, ◌≤◌, ◌+◌, ◌-◌, ℕ, List, [], ◌∷◌, ◌++◌, length, slice_get, refl, sym, ap, ◌∙◌, subst, inl, inr}
-use Rattle.std.specs.Prelude.{Option, Some, None, Result, Ok, Err, ⊤}
+use Rattle.std.proofs.Common.{◌≡◌, ◌<◌, ◌≤◌, ◌-◌, ℕ, List, ◌++◌, length, slice_get, refl, sym, ap, ◌∙◌, subst, inl, inr}
+use Rattle.std.specs.Prelude.{Option, Some, None, Result, ⊤}
 use Rattle.std.specs.declared.alloc.AllocError.{AllocError}
 use mathlib.Core.List.{IsPrefix}
 use Rattle.source_log.specs.Log.{Log}
-use Rattle.source_checkpoint.specs.declared.delta.Part.{Part}
-use Rattle.split_states.specs.declared.facts.RowFacts.{RowFacts}
-use Rattle.split_states.specs.declared.rows.Row.{Row}
-use Rattle.split_states.specs.Rows.{row_at}
-use Rattle.meta_store.specs.History.{history, delta_of}
-use Rattle.meta_store.specs.Rows.{rows}
 use Rattle.turn_lock.specs.Counts.{Rises, run_of, times}
 use Rattle.turn_lock.specs.Passes.{built, left, parts, places, seen}
 use Rattle.turn_lock.specs.declared.history.HasHistory.{Ghosts}
@@ -17,25 +11,20 @@ use Rattle.turn_lock.specs.declared.lock.TurnLock.{TurnLock}
 use Rattle.turn_lock.specs.declared.lock.Pass.{Pass}
 use Rattle.index_config.specs.declared.config.IndexConfig.{IndexConfig}
 use Rattle.index_world.specs.Answering.{Answered}
-use Rattle.index_world.specs.Calls.{Fate, Gives, Unmade}
+use Rattle.index_world.specs.Calls.{Fate, Gives}
 use Rattle.index_world.specs.CallsMade.{Ask}
-use Rattle.index_world.specs.Core.{Core, HasStagedIn, IsUnusedIn, journal_of, last_count}
-use Rattle.index_world.specs.Gate.{Does, DoesWith, IsUnmade, SaysWith, WasStaged}
-use Rattle.index_world.specs.Index.{has_staged, HasStaged}
-use Rattle.index_world.specs.World.{Keeping, WorldStands}
-use Rattle.index_world.specs.declared.tokens.Staged.{Staged}
+use Rattle.index_world.specs.Core.{Core, IsUnusedIn, last_count}
+use Rattle.index_world.specs.Gate.{Does, DoesWith}
 use Rattle.index_world.specs.declared.world_error.WorldError.{WorldError}
-use Rattle.meta_journal.specs.declared.entry.Entry.{Entry}
-use Rattle.shared_gate.specs.Acts.{number_given}
-use Rattle.shared_gate.specs.Recording.{Acting, ActingWith, Always, Answering, Entered, IsNewNumber, IsStanding, RanBy, Records, Unheard, WasStagedBy, base_of, clocked_at}
-use Rattle.shared_gate.specs.Sharing.{IsHome, Passes, Seat, SeatAdds, SeatBegins, SeatOwns, SeatStands, last_core, seat_of}
+use Rattle.shared_gate.specs.Recording.{Acting, ActingWith, Always, Answering, IsStanding, RanBy, Records, WasStagedBy, base_of}
+use Rattle.shared_gate.specs.Sharing.{IsHome, Passes, Seat, SeatAdds, SeatBegins, SeatOwns, SeatStands, seat_of}
 use Rattle.shared_gate.specs.SharedLaws.{staged_on}
 use Rattle.shared_gate.specs.declared.recorded.Event.{Event}
 use Rattle.shared_gate.specs.declared.recorded.Opening.{Opening}
 use Rattle.shared_gate.specs.declared.recorded.Recorded.{Recorded}
 use Rattle.shared_gate.proofs.Doing.{Short, Took, acting_with, does_of, does_with, given_back}
-use Rattle.shared_gate.proofs.Owners.{IsLent, Met}
-use Rattle.shared_gate.proofs.Premises.{Carries, Stays, always_stays, carries, carries_unused, sure_of}
+use Rattle.shared_gate.proofs.Owners.{IsLent}
+use Rattle.shared_gate.proofs.Premises.{Stays, always_stays, carries, carries_unused, sure_of}
 use Rattle.shared_gate.proofs.Turning.{GivenBack, none_fresh}
 
 -- ---- a turn

@@ -1,19 +1,16 @@
 -- What a call needs of the index is carried to its turn.
-use Rattle.std.proofs.Common.{◌≡◌, ◌⊎◌, ◌≤◌, ℕ, List, [], ◌∷◌, refl, sym, ap, ◌∙◌, subst, inl, inr}
-use Rattle.std.specs.Prelude.{Option, Some, None, ⊤}
-use Rattle.index_config.specs.declared.config.IndexConfig.{IndexConfig}
+use Rattle.std.proofs.Common.{◌≤◌, ℕ, List, [], ◌∷◌, subst}
+use Rattle.std.specs.Prelude.{Option}
 use Rattle.meta_journal.specs.declared.entry.Entry.{Entry}
 use Rattle.meta_store.specs.History.{history, last_opstamp}
 use Rattle.meta_store.specs.Ledgers.{ledger}
 use Rattle.meta_store.specs.Left.{HasMarks}
 use Rattle.meta_store.specs.State.{Legal}
-use Rattle.source_checkpoint.specs.declared.delta.Part.{Part}
 use Rattle.source_log.specs.Log.{Log}
 use Rattle.index_world.specs.Alike.{AreAlike}
 use Rattle.index_world.specs.Config.{reads}
-use Rattle.index_world.specs.Core.{Core, IsConfigured, IsUnusedIn, Nobody}
-use Rattle.index_world.specs.Gate.{IsPublishable}
-use Rattle.index_world.specs.Replacing.{AreFetchedIn, DropsNone, IsMadeOf, IsRaisable, IsReplaceable, WerePlanned, joined}
+use Rattle.index_world.specs.Core.{Core, IsUnusedIn, Nobody}
+use Rattle.index_world.specs.Replacing.{AreFetchedIn, DropsNone, IsMadeOf, WerePlanned, joined}
 use Rattle.index_world.specs.World.{GoesFor, WorldStands}
 use Rattle.index_world.proofs.Agreement.{alike_of}
 use Rattle.index_world.proofs.JournalLaws.{legal_history}

@@ -1,12 +1,11 @@
 -- What a call of a recorded world leaves.
-use Rattle.std.proofs.Common.{◌≡◌, ◌<◌, ◌≤◌, ◌^◌, ℕ, List, [], ◌∷◌, ◌++◌, length, refl, sym, ap, ◌∙◌, subst, inl, inr}
-use Rattle.std.specs.Prelude.{Option, Some, None, Result, Ok, Err}
+use Rattle.std.proofs.Common.{◌≡◌, ◌<◌, ◌≤◌, ◌^◌, ℕ, List, [], ◌∷◌, ◌++◌, length, refl, sym, ap, ◌∙◌, subst}
+use Rattle.std.specs.Prelude.{Option, Some, None, Err}
 use Rattle.std.specs.declared.alloc.AllocError.{AllocError}
 use Rattle.source_log.specs.Log.{Log}
 use Rattle.index_world.specs.CallsMade.{Ask}
 use Rattle.index_world.specs.Core.{last_count}
 use Rattle.index_world.specs.World.{Keeping}
-use Rattle.index_world.specs.declared.world_error.WorldError.{WorldError}
 use Rattle.index_world.specs.declared.world_error.WorldError.TheVariants as errors
 use Rattle.shared_gate.specs.Recording.{AreOwners, Begun, Entered, IsCalled, IsLinked, IsNoted, IsStanding, Unheard, base_of, last_world, set_to}
 use Rattle.shared_gate.specs.declared.call.Call.{Call}

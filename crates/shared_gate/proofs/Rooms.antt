@@ -1,10 +1,10 @@
 -- A call that finds no memory for its event does nothing, which is one of its fates.
-use Rattle.std.proofs.Common.{◌≡◌, ◌≤◌, ◌<◌, ℕ, zero, suc, Bool, true, false, List, [], ◌∷◌, length, slice_get, refl, sym, ap, ◌∙◌, arith}
-use Rattle.std.specs.Prelude.{Option, Some, None, Result, Ok, Err, ⊤}
+use Rattle.std.proofs.Common.{◌≡◌, ◌≤◌, ◌<◌, ℕ, zero, suc, Bool, true, false, List, [], ◌∷◌, length, slice_get, refl, ap, arith}
+use Rattle.std.specs.Prelude.{Some, Err, ⊤}
 use Rattle.std.specs.declared.alloc.AllocError.{AllocError}
 use Rattle.source_checkpoint.specs.declared.delta.Part.{Part}
 use Rattle.split_states.specs.declared.facts.RowFacts.{RowFacts}
-use Rattle.index_world.specs.Calls.{Call, Fate, Grace, Gives, gives, Trouble, no_memory, Unmade, troubled, Unfetched, hindered, and_then, asked, asked_and_looked, begun, calm_call, fetched_from, looked, settle_with, unless_short, upload_made}
+use Rattle.index_world.specs.Calls.{Call, Fate, Grace, gives, no_memory, troubled, hindered, and_then, asked, asked_and_looked, begun, calm_call, fetched_from, looked, settle_with, unless_short, upload_made}
 use Rattle.index_world.specs.Collecting.{doom_call, list_call, mark_stale_call, remove_call, sweep_call}
 use Rattle.index_world.specs.Core.{Core, last_count}
 use Rattle.index_world.specs.Gate.{IsTrouble, IsUnfetched, IsUnmade, publish_call, raise_call, replace_call, stage_call, task_call}

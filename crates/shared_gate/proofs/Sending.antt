@@ -1,7 +1,7 @@
 -- A recorded world, and one of many that share it, may go to another thread.
 use denote.RattleType.{RattleType}
 use denote.Param.Send.{IsSend, sendable, view_send}
-use denote.Param.SendFields.{declared_send}
+use denote.Param.SendFields.{declared_send, variants_send}
 use Rattle.std.proofs.Crossing.{crosses}
 use Rattle.std.proofs.alloc.Global.TheSendSync as heap
 use Rattle.doc_value.proofs.items.List.TheSendSync as items
@@ -28,6 +28,12 @@ use Rattle.index_world.specs.contracts.world.World as World
 use Rattle.index_world.specs.contracts.world.World.TheInside as inside
 use Rattle.object_store.specs.declared.store.ObjectStore as store
 use Rattle.clock_time.specs.declared.clock.Clock as clock
+use Rattle.clock_time.specs.contracts.clock.ScriptClock as Script
+use Rattle.clock_time.specs.contracts.clock.ScriptClockClock.TheImpl as script_clock
+use Rattle.clock_time.proofs.clock.ScriptClock.TheSendSync as script
+use Rattle.shared_gate.specs.contracts.call.Call as Call
+use Rattle.shared_gate.specs.contracts.recorded.Event as Event
+use Rattle.shared_gate.specs.contracts.recorded.Recorded as Recorded
 
 -- ---- the state of an index, from the queries of its tasks on
 
@@ -54,3 +60,43 @@ module _ (S C : RattleType) (s : store.Ghosts S.Denot) (c : clock.Ghosts C.Denot
 
   pub world_send : IsSend (World.the_row S C s c)
   world_send = view_send _ _ _ _ _ fields_send
+
+-- ---- a recorded one: an event has snapshots, which own nothing
+
+call_send : IsSend Call.the_row
+call_send = variants_send Call.enum (
+  tt,
+  (
+    tt,
+    (
+      (search (sendable, crosses), (search (sendable, crosses), (search sendable depth 10, tt))),
+      (
+        (search sendable, tt),
+        (
+          (search sendable, tt),
+          (
+            (search sendable, (search (sendable, crosses), (search sendable, tt))),
+            (
+              (search sendable, (search sendable, tt)),
+              (
+                (search (sendable, crosses), tt),
+                (
+                  (search (sendable, crosses), tt),
+                  ((search sendable, (search sendable, (search sendable, tt))), (tt, (tt, (tt, ((search (sendable, crosses) depth 10, tt), ((search sendable, tt), tt)))))),
+                ),
+              ),
+            ),
+          ),
+        ),
+      ),
+    ),
+  ),
+)
+
+event_send : (S : RattleType) (s : store.Ghosts S.Denot) → IsSend (Event.the_row S s)
+event_send S s = declared_send (Event.the_type S s) (call_send, (search sendable, (search (sendable, crosses), tt)))
+
+module _ (S K L : RattleType) (s : store.Ghosts S.Denot) (store_send : IsSend S) (clock_send : IsSend K) where
+  pub recorded_send : IsSend (Recorded.the_row S K L s)
+  recorded_send = declared_send (Recorded.the_type S K L s)
+      (world_send S Script.the_row s script_clock.ghosts store_send script.the_send, (search (sendable, clock_send) depth 10, (search (sendable, crosses, event_send) depth 10, (search (sendable, crosses) depth 10, (search (sendable, crosses) depth 10, tt)))))

@@ -1,5 +1,5 @@
 -- A Stage of one of many: its number is above all that were staged before, and its own.
-use Rattle.std.proofs.Common.{◌≡◌, ◌⊎◌, ◌<◌, ◌≤◌, ◌+◌, ◌-◌, ℕ, List, [], ◌∷◌, ◌++◌, length, slice_get, refl, sym, ap, ◌∙◌, subst, inl, inr, true}
+use Rattle.std.proofs.Common.{◌≡◌, ◌⊎◌, ◌<◌, ◌≤◌, ℕ, List, [], ◌∷◌, ◌++◌, length, slice_get, refl, sym, ap, ◌∙◌, subst, inl, inr, true}
 use Rattle.std.specs.Prelude.{Option, Some, None, Result, Ok, Err, ⊤, IfOk}
 use Rattle.std.specs.declared.alloc.AllocError.{AllocError}
 use Rattle.meta_journal.specs.declared.entry.Entry.{Entry}
@@ -19,13 +19,13 @@ use Rattle.index_world.specs.Index.{has_staged, HasStaged}
 use Rattle.index_world.specs.declared.tokens.Staged.{Staged}
 use Rattle.index_world.specs.declared.world_error.WorldError.{WorldError}
 use Rattle.index_world.specs.declared.world_error.WorldError.TheVariants as errors
-use Rattle.shared_gate.specs.Acts.{number_given, stage_act}
-use Rattle.shared_gate.specs.Recording.{Acting, Always, Answering, Entered, IsNewNumber, Records, Unheard, WasStagedBy, base_of, clocked_at, staged_by}
-use Rattle.shared_gate.specs.Sharing.{Passes, Seat, SeatAdds, SeatOwns, SeatStands, last_core}
+use Rattle.shared_gate.specs.Acts.{number_given}
+use Rattle.shared_gate.specs.Recording.{Acting, Always, Answering, Entered, IsNewNumber, Records, Unheard}
+use Rattle.shared_gate.specs.Sharing.{Passes, Seat, SeatAdds, SeatOwns, SeatStands}
 use Rattle.shared_gate.specs.declared.recorded.Event.{Event}
 use Rattle.shared_gate.specs.declared.recorded.Recorded.{Recorded}
 use Rattle.shared_gate.proofs.Doing.{Short, Took, does_of, does_with, given_back}
-use Rattle.shared_gate.proofs.Owners.{IsLent, Met}
+use Rattle.shared_gate.proofs.Owners.{IsLent}
 use Rattle.shared_gate.proofs.Plain.{records_with}
 use Rattle.shared_gate.proofs.Premises.{always_stays, carries}
 use Rattle.shared_gate.proofs.Turning.{GivenBack, last_at}

@@ -1,36 +1,25 @@
 -- A call of one of many: its turn, from what the lock lent to what it was given back.
-use Rattle.std.proofs.Common.{◌≡◌, ◌⊎◌, ⊎_elim, ◌<◌, ◌≤◌, ◌+◌, ◌-◌, ◌^◌, ℕ, zero, suc, Bool, true, false, List, [], ◌∷◌, ◌++◌, length, slice_get, refl, sym, ap, ◌∙◌, subst, inl, inr, arith, append-nil, length-append, eqb}
-use Rattle.std.specs.Prelude.{Option, Some, None, IsSome, Result, Ok, Err, ⊤, nat_lt, IfOk}
+use Rattle.std.proofs.Common.{◌≡◌, ◌⊎◌, ◌<◌, ◌≤◌, ◌+◌, ◌-◌, ℕ, zero, suc, List, [], ◌∷◌, ◌++◌, length, slice_get, refl, sym, ap, ◌∙◌, subst, inl, inr, arith, append-nil, length-append, eqb}
+use Rattle.std.specs.Prelude.{Option, Some, None, Result}
 use Rattle.std.proofs.lemmas.Option.{slice_get_within}
 use mathlib.Core.List.{IsPrefix}
-use Rattle.object_store.specs.Store.{State, WhereTold}
 use Rattle.source_log.specs.Log.{Log}
-use Rattle.turn_lock.specs.Counts.{Rises, one_if, run_of, times, total}
-use Rattle.turn_lock.proofs.Beginnings.{prefix_length, prefix_trans}
+use Rattle.turn_lock.specs.Counts.{one_if, run_of, times}
 use Rattle.turn_lock.proofs.Counting.{total_append}
 use Rattle.turn_lock.proofs.Places.{rests_new}
-use Rattle.index_config.specs.declared.config.IndexConfig.{IndexConfig}
-use Rattle.index_world.specs.Answering.{Answered, IsAnswer}
-use Rattle.index_world.specs.Asked.{Behind}
-use Rattle.index_world.specs.Calls.{Fate, Gives, gives}
-use Rattle.index_world.specs.CallsMade.{Ask, CallMade, IsRecorded, IsShort, made_of}
-use Rattle.index_world.specs.Core.{Core, IsConfigured, IsOther, IsUnusedIn, Nobody, last_count}
-use Rattle.index_world.specs.Gate.{Acts, ActsWith, Does, DoesWith, Says, SaysWith}
-use Rattle.index_world.specs.World.{GoesFor, GoesOn, Keeping, WorldStands}
-use Rattle.index_world.specs.DirectLaws.{stays_as_is}
+use Rattle.index_world.specs.Calls.{Fate}
+use Rattle.index_world.specs.CallsMade.{Ask}
+use Rattle.index_world.specs.Core.{Core, IsOther}
+use Rattle.index_world.specs.World.{GoesOn, Keeping, WorldStands}
 use Rattle.index_world.specs.declared.world_error.WorldError.{WorldError}
-use Rattle.index_world.specs.declared.world_error.WorldError.TheVariants as errors
-use Rattle.index_world.proofs.Gates.{clocked}
 use Rattle.index_world.proofs.InCore.{goes_both}
-use Rattle.shared_gate.specs.Recording.{AreOwners, Begun, Entered, IsCalled, IsLinked, IsNewNumber, IsStanding, Leads, Led, RanBy, Records, TellsOn, Unheard, WasStagedBy, clocked_at, last_world, base_of, set_to, staged_by, uploaded_by}
-use Rattle.shared_gate.specs.Sharing.{AtPlaces, HasCall, IsHome, IsUnheard, Passes, Seat, SeatAdds, SeatAnswers, SeatBegins, SeatOwns, SeatSince, SeatStands, Shows, Step, last_core, seat_told, world_of}
-use Rattle.shared_gate.specs.SharedLaws.{clock_goes, front_get, staged_on}
-use Rattle.shared_gate.specs.declared.call.Call.{Call}
+use Rattle.shared_gate.specs.Recording.{AreOwners, Begun, Entered, IsLinked, IsNewNumber, IsStanding, Leads, RanBy, TellsOn, Unheard, WasStagedBy, clocked_at, last_world, base_of, uploaded_by}
+use Rattle.shared_gate.specs.Sharing.{IsHome, Seat, SeatBegins}
+use Rattle.shared_gate.specs.SharedLaws.{clock_goes, staged_on}
 use Rattle.shared_gate.specs.declared.recorded.Event.{Event}
 use Rattle.shared_gate.specs.declared.recorded.Recorded.{Recorded}
-use Rattle.shared_gate.proofs.Lives.{last_append, linked_snoc, tells_on}
+use Rattle.shared_gate.proofs.Lives.{last_append, linked_snoc}
 use Rattle.shared_gate.proofs.Owners.{IsLent, linked}
-use Rattle.shared_gate.proofs.Premises.{Carries}
 
 -- ---- lists
 

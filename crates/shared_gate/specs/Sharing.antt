@@ -1,5 +1,5 @@
 -- What one of many that share a world knows of it.
-use Rattle.std.specs.Prelude.{◌≡◌, ◌⊎◌, ◌<◌, ◌^◌, ℕ, List, [], ◌∷◌, ◌++◌, slice_get, Option, Some, None, Result, ⊤}
+use Rattle.std.specs.Prelude.{◌≡◌, ◌⊎◌, ◌<◌, ◌^◌, ℕ, List, [], ◌∷◌, ◌++◌, slice_get, Option, Some, ⊤}
 use mathlib.Core.List.{IsPrefix}
 use Rattle.index_config.specs.declared.config.IndexConfig.{IndexConfig}
 use Rattle.source_log.specs.Log.{Log}
