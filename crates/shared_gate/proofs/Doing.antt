@@ -240,7 +240,17 @@ module _ {Lock S K L : Type 0} (told : L → Option Log) where
     pub answered_by : {A : Type 0} (ask : Ask) (staged one : Option ℕ) (Act : Keeping → Keeping → Type 0) (answered : Answered) (result : Result A WorldError)
         → Records ask staged one (Answering answered Act) result old.home new_home lent last → (IsShort result → IsUnheard answered) → SeatAnswers old answered new
     answered_by ask staged one Act answered result (inl u) unheard = inr (unheard (subst (λ (x : Result _ WorldError). IsShort x) (sym u.is) tt))
-    answered_by ask staged one Act answered result (inr x) unheard = inl (set_to x.clock lent.world, subst (λ (w : Keeping). IsAnswer answered (set_to x.clock lent.world) w) world_is x.acts.1)
+    answered_by ask staged one Act answered result (inr x) unheard =
+        let first : lent.world ≡ last_world new.opened lent.events.items = l.standing.last ∙ ap (λ (k : Keeping). last_world k lent.events.items) (l.opened ∙ sym t.opened) in
+        inl (record {
+          before = lent.events.items;
+          event = x.event;
+          seen = t.seen ∙ x.events;
+          behind = l.seen;
+          clock = x.clock;
+          low = x.low;
+          answers = subst (λ (w : Keeping × Keeping). IsAnswer answered (set_to x.clock w.0) w.1) (λ i. (first i, world_is i)) x.acts.1;
+        })
 
     pub told_by : {A : Type 0} (ask : Ask) (staged one : Option ℕ) (Act : Keeping → Keeping → Type 0) (answered : Answered) (result : Result A WorldError)
         → Records ask staged one (Answering answered Act) result old.home new_home lent last → (Says : Result A WorldError → State → State → Type 0) → ((error : AllocError) (s : State) → Says (Err (errors.Memory error)) s s)

@@ -14,7 +14,7 @@ use Rattle.index_world.specs.Calls.{Fate}
 use Rattle.index_world.specs.CallsMade.{Ask, CallMade, IsShort, made_of}
 use Rattle.index_world.specs.Core.{Core, IsConfigured, Nobody}
 use Rattle.index_world.specs.World.{Keeping, WorldStands, GoesFor}
-use Rattle.shared_gate.specs.Recording.{Begun, IsCall, RanBy, WasStagedBy, clocked_at, last_world}
+use Rattle.shared_gate.specs.Recording.{Begun, IsCall, RanBy, WasStagedBy, clocked_at, last_world, set_to}
 use Rattle.shared_gate.specs.declared.recorded.Event.{Event}
 use Rattle.shared_gate.specs.declared.recorded.Opening.{Opening}
 use Rattle.shared_gate.specs.declared.recorded.Recorded.{Recorded}
@@ -156,9 +156,20 @@ module _ {Lock S L : Type 0} where
     pub places : new.places ≡ old.places ++ more
     pub calls : AtPlaces new.seen more made
 
-  -- some world behind what others did answered so, and left the one behind all that was seen; or nothing was done
+  -- At its turn the call answered so: over the world that the events before it left, which begin with all that was seen, with the clock
+  -- set. It left the one behind all that was seen.
+  pub record AtTurn (old : Seat Lock S L) (answered : Answered) (new : Seat Lock S L) : Type 0 where
+    pub before : List (Event S)
+    pub event : Event S
+    pub seen : new.seen ≡ before ++ event ∷ []
+    pub behind : IsPrefix old.seen before
+    pub clock : ℕ
+    pub low : clock < 2 ^ 62
+    pub answers : IsAnswer answered (set_to clock (last_world new.opened before)) (world_of new)
+
+  -- or there was no memory for its event
   abbrev pub SeatAnswers : Seat Lock S L → Answered → Seat Lock S L → Type 0
-  SeatAnswers old answered new = ((mid : Keeping) × IsAnswer answered mid (world_of new)) ⊎ IsUnheard answered
+  SeatAnswers old answered new = AtTurn old answered new ⊎ IsUnheard answered
 
   abbrev pub seat_told : Seat Lock S L → Option store.State
   seat_told seat = (world_of seat).told
