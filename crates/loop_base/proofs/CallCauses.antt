@@ -209,7 +209,7 @@ module _ (low : ℕ) where
   nothing_caused true none core past = record { says = tt; past = past }
   nothing_caused false none core past = record { says = tt; past = past }
 
-  as_given : {E A : Type 0} (Within : ℕ → E → ℕ → Type 0) (given : Gives E A) → Caused Within low given → Caused Within low (gives given.answer given.core)
+  pub as_given : {E A : Type 0} (Within : ℕ → E → ℕ → Type 0) (given : Gives E A) → Caused Within low given → Caused Within low (gives given.answer given.core)
   as_given Within given g = record { says = g.says; past = g.past }
 
   last_offer_caused : {B : Type 0} (call : Call) (none : B) (offer : Option (Offer B)) (core : Core) → Past low core.store_faults → Caused UnmadeWithin low (last_offer call low none offer core)

@@ -9,9 +9,11 @@ use Rattle.index_world.specs.CallsMade.{CallMade}
 use Rattle.index_world.specs.Core.{Core, Nobody}
 use Rattle.index_world.specs.DirectLaws.{stays_as_is}
 use Rattle.index_world.specs.World.{GoesFor}
+use Rattle.index_world.specs.declared.world_error.WorldError.{WorldError}
+use Rattle.index_world.specs.declared.world_error.WorldError.TheVariants as errors
 use Rattle.index_world.proofs.InCore.{goes_both}
 use Rattle.index_world.proofs.StoreChanges.{All-snoc}
-use Rattle.loop_base.specs.Ran.{AreSteps, EndsBy, IsCause, IsLastEnd, Ran, StepMade, Works, WorksTo, calls_of}
+use Rattle.loop_base.specs.Ran.{AreSteps, EndsBy, IsCause, IsCaused, IsLastEnd, Ran, StepMade, Works, WorksTo, calls_of}
 
 -- a count is not below this one, as far as counts go
 abbrev pub Past : ℕ → ℕ → Type 0
@@ -81,10 +83,11 @@ module _ {S X E : Type 0} (Step : S → X → S → Type 0) (end_of : X → Opti
 
 module _ {W S R E : Type 0} (Stands : W → Core → Log → Type 0) (Adds : W → List CallMade → W → Type 0) (Step : S → StepMade R → S → Type 0) (core_of : S → Core) (end_of : R → Option E) where
   -- so many steps, of which none is an end, and the gate behind them
-  pub record SoFar (count : ℕ) (from : S) (log : Log) (old new : W) : Type 0 where
+  pub record SoFar (Left : S → Type 0) (count : ℕ) (from : S) (log : Log) (old new : W) : Type 0 where
     pub steps : List (StepMade R)
     pub last : S
     pub are : AreSteps Step from steps last
+    pub left : Left last
     pub own : Adds old (calls_of steps) new
     pub goes_on : GoesFor Nobody (core_of from) (core_of last)
     pub stands : Stands new (core_of last) log
@@ -92,20 +95,22 @@ module _ {W S R E : Type 0} (Stands : W → Core → Log → Type 0) (Adds : W �
     pub count_is : length steps ≡ count
 
   -- one step, and the gate behind it
-  pub record OneStep (result : R) (from : S) (log : Log) (old new : W) : Type 0 where
+  pub record OneStep (Left : S → Type 0) (result : R) (from : S) (log : Log) (old new : W) : Type 0 where
     pub made : List CallMade
     pub to : S
+    pub left : Left to
     pub step : Step from (record { result = result; made = made }) to
     pub own : Adds old made new
     pub goes_on : GoesFor Nobody (core_of from) (core_of to)
     pub stands : Stands new (core_of to) log
 
-  pub none_so_far : ((gate : W) → Adds gate [] gate) → (from : S) (log : Log) (gate : W) → Stands gate (core_of from) log → SoFar 0 from log gate gate
-  none_so_far adds_none from log gate stands =
+  pub none_so_far : ((gate : W) → Adds gate [] gate) → (Left : S → Type 0) (from : S) (log : Log) (gate : W) → Left from → Stands gate (core_of from) log → SoFar Left 0 from log gate gate
+  none_so_far adds_none Left from log gate left stands =
       record {
         steps = [];
         last = from;
         are = refl;
+        left = left;
         own = adds_none gate;
         goes_on = stays_as_is Nobody (core_of from);
         stands = stands;
@@ -114,7 +119,7 @@ module _ {W S R E : Type 0} (Stands : W → Core → Log → Type 0) (Adds : W �
       }
 
   module _ (adds_more : (first mid last : W) (made more : List CallMade) → Adds first made mid → Adds mid more last → Adds first (made ++ more) last)
-      (count : ℕ) (from : S) (log : Log) (old mid new : W) (so_far : SoFar count from log old mid) (result : R) (one : OneStep result so_far.last log mid new) where
+      (Before Left : S → Type 0) (count : ℕ) (from : S) (log : Log) (old mid new : W) (so_far : SoFar Before count from log old mid) (result : R) (one : OneStep Left result so_far.last log mid new) where
     abbrev this : StepMade R
     this = record { result = result; made = one.made }
 
@@ -135,12 +140,13 @@ module _ {W S R E : Type 0} (Stands : W → Core → Log → Type 0) (Adds : W �
     count_all : length all ≡ count + 1
     count_all = let longer = one_longer so_far.steps this in let counted = so_far.count_is in omega (arith, longer, counted)
 
-    pub one_more : end_of result ≡ None → SoFar (count + 1) from log old new
+    pub one_more : end_of result ≡ None → SoFar Left (count + 1) from log old new
     one_more goes =
         record {
           steps = all;
           last = one.to;
           are = are_all;
+          left = one.left;
           own = own_all;
           goes_on = goes_all;
           stands = one.stands;
@@ -149,7 +155,7 @@ module _ {W S R E : Type 0} (Stands : W → Core → Log → Type 0) (Adds : W �
         }
 
     pub ended_here : (used_up : E) (turns : ℕ) (end : E) → end_of result ≡ Some end → count < turns →
-        Ran Stands Adds (λ made after. Works Step core_of end_of used_up turns end from made after) (core_of from) log old new
+        Ran Stands Adds (λ made after. Works Step core_of end_of used_up Left turns end from made after) (core_of from) log old new
     ended_here used_up turns end ends less =
         record {
           made = calls_of all;
@@ -161,15 +167,16 @@ module _ {W S R E : Type 0} (Stands : W → Core → Log → Type 0) (Adds : W �
             steps = all;
             last = one.to;
             are = are_all;
+            left = one.left;
             calls = refl;
             goes_on = stays_as_is Nobody (core_of one.to);
             ended = let counted = count_all in inl (omega (arith, counted, less), record { front = so_far.steps; last = this; are = refl; going = so_far.going; ends = ends });
           };
         }
 
-  pub used_up_here : (used_up : E) (turns : ℕ) (from : S) (log : Log) (old new : W) → SoFar turns from log old new →
-      Ran Stands Adds (λ made after. Works Step core_of end_of used_up turns used_up from made after) (core_of from) log old new
-  used_up_here used_up turns from log old new so_far =
+  pub used_up_here : (Left : S → Type 0) (used_up : E) (turns : ℕ) (from : S) (log : Log) (old new : W) → SoFar Left turns from log old new →
+      Ran Stands Adds (λ made after. Works Step core_of end_of used_up Left turns used_up from made after) (core_of from) log old new
+  used_up_here Left used_up turns from log old new so_far =
       record {
         made = calls_of so_far.steps;
         after = core_of so_far.last;
@@ -180,6 +187,7 @@ module _ {W S R E : Type 0} (Stands : W → Core → Log → Type 0) (Adds : W �
           steps = so_far.steps;
           last = so_far.last;
           are = so_far.are;
+          left = so_far.left;
           calls = refl;
           goes_on = stays_as_is Nobody (core_of so_far.last);
           ended = inr (refl, so_far.count_is, so_far.going);
@@ -194,12 +202,12 @@ ran_as Stands Adds Did More core log old new more ran =
 
 -- ---- behind an actor's work
 
-module _ {S R E : Type 0} (Step : S → StepMade R → S → Type 0) (core_of : S → Core) (end_of : R → Option E) where
+module _ {S R E : Type 0} (Step : S → StepMade R → S → Type 0) (core_of : S → Core) (end_of : R → Option E) (Left : S → Type 0) where
   -- the index may go on
   pub works_later : (used_up : E) (turns : ℕ) (end : E) (from : S) (made : List CallMade) (after later : Core) → GoesFor Nobody after later →
-      Works Step core_of end_of used_up turns end from made after → Works Step core_of end_of used_up turns end from made later
+      Works Step core_of end_of used_up Left turns end from made after → Works Step core_of end_of used_up Left turns end from made later
   works_later used_up turns end from made after later on w =
-      record { steps = w.steps; last = w.last; are = w.are; calls = w.calls; goes_on = goes_then (core_of w.last) after later w.goes_on on; ended = w.ended }
+      record { steps = w.steps; last = w.last; are = w.are; left = w.left; calls = w.calls; goes_on = goes_then (core_of w.last) after later w.goes_on on; ended = w.ended }
 
   module _ (step_goes : (a : S) (x : StepMade R) (b : S) → Step a x b → GoesFor Nobody (core_of a) (core_of b)) where
     pub steps_go : (from to : S) (xs : List (StepMade R)) → AreSteps Step from xs to → GoesFor Nobody (core_of from) (core_of to)
@@ -207,7 +215,7 @@ module _ {S R E : Type 0} (Step : S → StepMade R → S → Type 0) (core_of : 
     steps_go from to (x ∷ xs) are = goes_then (core_of from) (core_of are.0) (core_of to) (step_goes from x are.0 are.1) (steps_go are.0 to xs are.2)
 
     -- The cause of an end that fails: its step is the last one.
-    module _ (used_up : E) (turns : ℕ) (end : E) (from : S) (made : List CallMade) (after : Core) (w : Works Step core_of end_of used_up turns end from made after) where
+    module _ (used_up : E) (turns : ℕ) (end : E) (from : S) (made : List CallMade) (after : Core) (w : Works Step core_of end_of used_up Left turns end from made after) where
       pub end_cause : (before now : ℕ) → (end ≡ used_up → ⊥) → ((a : S) (x : StepMade R) (b : S) → Step a x b → end_of x.result ≡ Some end → PastCause before now (core_of a) (core_of b)) →
           (core_of from).store_faults ≤ last_count → IsCause before now (core_of from) after
       end_cause before now other cause within = by w.ended
@@ -223,3 +231,18 @@ module _ {S R E : Type 0} (Step : S → StepMade R → S → Type 0) (core_of : 
               let past = c.0 in
               let later = c.2 in
               (omega (arith, front, past, within), c.1, omega (arith, behind, later))
+
+-- ---- a cause, where the index goes on
+
+pub caused_later : (error : WorldError) (core after later : Core) → GoesFor Nobody after later → IsCaused error core after → IsCaused error core later
+caused_later (errors.Memory e) core after later on c = tt
+caused_later (errors.Refused refusal) core after later on c = tt
+caused_later (errors.StoreFault before now) core after later on c = let up = on.faults in let high = c.2 in (c.0, c.1, omega (arith, up, high))
+caused_later (errors.Missing key) core after later on c = tt
+caused_later (errors.Corrupt key) core after later on c = tt
+caused_later (errors.Foreign key) core after later on c = tt
+caused_later errors.Full core after later on c = tt
+caused_later (errors.Expired planned_at reached) core after later on c = tt
+caused_later errors.NoIndex core after later on c = tt
+caused_later errors.IndexExists core after later on c = tt
+caused_later (errors.BadConfig bad) core after later on c = tt

@@ -71,13 +71,14 @@ EndsBy end_of used_up turns steps end =
     ((length steps ≤ turns) × IsLastEnd end_of steps end)
     ⊎ ((end ≡ used_up) × (length steps ≡ turns) × AllByRecursion (λ x. end_of x ≡ None) steps)
 
--- AN ACTOR'S WORK UP TO ITS END, in so many turns at most: these were its steps, and the calls are theirs. Behind the last one the index
--- went on.
-pub record Works {S R E : Type 0} (Step : S → StepMade R → S → Type 0) (core_of : S → Core) (end_of : R → Option E) (used_up : E) (turns : ℕ)
-    (end : E) (from : S) (made : List CallMade) (after : Core) : Type 0 where
+-- AN ACTOR'S WORK UP TO ITS END, in so many turns at most: these were its steps, and the calls are theirs. Where the last one led this
+-- holds, and behind it the index went on.
+pub record Works {S R E : Type 0} (Step : S → StepMade R → S → Type 0) (core_of : S → Core) (end_of : R → Option E) (used_up : E) (Left : S → Type 0)
+    (turns : ℕ) (end : E) (from : S) (made : List CallMade) (after : Core) : Type 0 where
   pub steps : List (StepMade R)
   pub last : S
   pub are : AreSteps Step from steps last
+  pub left : Left last
   pub calls : made ≡ calls_of steps
   pub goes_on : GoesFor Nobody (core_of last) after
   pub ended : EndsBy (λ (step : StepMade R). end_of step.result) used_up turns steps end

@@ -14,7 +14,7 @@ use Rattle.index_world.specs.declared.world_error.WorldError.{WorldError}
 use Rattle.index_world.specs.declared.world_error.WorldError.TheVariants as errors
 use Rattle.loop_base.specs.Ran.{IsCause, IsCaused, Ran, StepMade, Works}
 use Rattle.loop_base.proofs.CallCauses.{AnswerWithin, Caused, FaultWithin, TroubleWithin, UnmadeWithin, appended_if_caused, as_unmade_caused, doom_caused, file_got_caused, sweep_caused, unmade_wider}
-use Rattle.loop_base.proofs.Ran.{OneStep, Past, PastCause, end_cause, ran_as, works_later}
+use Rattle.loop_base.proofs.Ran.{OneStep, Past, PastCause, caused_later, end_cause, ran_as, works_later}
 use Rattle.split_collector.specs.Ending.{Told}
 use Rattle.split_collector.specs.Outcomes.{Outcome, MarkedStale, Doomed, Removed, Swept, Nothing, Refused, Faulted}
 use Rattle.split_collector.specs.Standing.{Answers, CollectsAs, IsSaid}
@@ -29,11 +29,12 @@ use Rattle.loop_collect.specs.declared.collect_all.CollectorEnd.TheVariants as e
 -- ---- one step
 
 pub one_step : {W : Type 0} (Stands : W → Core → Log → Type 0) (Between : Core → Core → Type 0) (Adds : W → List CallMade → W → Type 0) (told : Told) (core : Core) (log : Log) (old new : W) →
-    CollectsAs Stands Between Adds to_mark (ended told) core log old new → OneStep Stands Adds (CollectorStep Between) (λ c. c) end_of told core log old new
+    CollectsAs Stands Between Adds to_mark (ended told) core log old new → OneStep Stands Adds (CollectorStep Between) (λ c. c) end_of (λ c. ⊤) told core log old new
 one_step Stands Between Adds told core log old new s =
     record {
       made = s.made;
       to = s.after;
+      left = tt;
       step = record {
         passages = s.passages;
         passed = s.passed;
@@ -184,11 +185,11 @@ module _ (Between : Core → Core → Type 0) (between_goes : (core mid : Core) 
       (subst P stand_is (ran_says core.store_faults Between between_goes to_mark core s.passages s.passed fresh)).says
 
   module _ (turns : ℕ) (core : Core) (made : List CallMade) (after : Core) where
-    by_error : (error : WorldError) → Works (CollectorStep Between) (λ c. c) end_of ends.Turns turns (ends.Fault error) core made after → core.store_faults ≤ last_count → IsCaused error core after
+    by_error : (error : WorldError) → Works (CollectorStep Between) (λ c. c) end_of ends.Turns (λ c. ⊤) turns (ends.Fault error) core made after → core.store_faults ≤ last_count → IsCaused error core after
     by_error (errors.Memory e) w within = tt
     by_error (errors.Refused refusal) w within = tt
     by_error (errors.StoreFault before now) w within =
-        end_cause (CollectorStep Between) (λ c. c) end_of (λ a x b s. s.goes_on) ends.Turns turns (ends.Fault (errors.StoreFault before now)) core made after w before now (λ e. cc)
+        end_cause (CollectorStep Between) (λ c. c) end_of (λ c. ⊤) (λ a x b s. s.goes_on) ends.Turns turns (ends.Fault (errors.StoreFault before now)) core made after w before now (λ e. cc)
         (λ a x b s e. step_cause before now a x b s e) within
     by_error (errors.Missing key) w within = tt
     by_error (errors.Corrupt key) w within = tt
@@ -199,39 +200,26 @@ module _ (Between : Core → Core → Type 0) (between_goes : (core mid : Core) 
     by_error errors.IndexExists w within = tt
     by_error (errors.BadConfig bad) w within = tt
 
-    end_caused : (end : CollectorEnd) → Works (CollectorStep Between) (λ c. c) end_of ends.Turns turns end core made after → core.store_faults ≤ last_count → IsEndCaused end core after
+    end_caused : (end : CollectorEnd) → Works (CollectorStep Between) (λ c. c) end_of ends.Turns (λ c. ⊤) turns end core made after → core.store_faults ≤ last_count → IsEndCaused end core after
     end_caused ends.Nothing w within = tt
     end_caused (ends.Fault error) w within = by_error error w within
     end_caused ends.Turns w within = tt
     end_caused ends.Memory w within = tt
 
-    pub did_of : (end : CollectorEnd) → Works (CollectorStep Between) (λ c. c) end_of ends.Turns turns end core made after → CollectorDid Between turns end core made after
+    pub did_of : (end : CollectorEnd) → Works (CollectorStep Between) (λ c. c) end_of ends.Turns (λ c. ⊤) turns end core made after → CollectorDid Between turns end core made after
     did_of end w = record { works = w; cause = λ within. end_caused end w within }
 
   pub ran_did : {W : Type 0} (Stands : W → Core → Log → Type 0) (Adds : W → List CallMade → W → Type 0) (turns : ℕ) (end : CollectorEnd) (core : Core) (log : Log) (old new : W) →
-      Ran Stands Adds (λ made after. Works (CollectorStep Between) (λ c. c) end_of ends.Turns turns end core made after) core log old new →
+      Ran Stands Adds (λ made after. Works (CollectorStep Between) (λ c. c) end_of ends.Turns (λ c. ⊤) turns end core made after) core log old new →
       Ran Stands Adds (λ made after. CollectorDid Between turns end core made after) core log old new
   ran_did Stands Adds turns end core log old new r =
-      ran_as Stands Adds (λ made after. Works (CollectorStep Between) (λ c. c) end_of ends.Turns turns end core made after) (λ made after. CollectorDid Between turns end core made after) core log old new
+      ran_as Stands Adds (λ made after. Works (CollectorStep Between) (λ c. c) end_of ends.Turns (λ c. ⊤) turns end core made after) (λ made after. CollectorDid Between turns end core made after) core log old new
       (λ made after w. did_of turns core made after end w) r
 
 -- the index may go on
-later_cause : (error : WorldError) (core after later : Core) → GoesFor Nobody after later → IsCaused error core after → IsCaused error core later
-later_cause (errors.Memory e) core after later on c = tt
-later_cause (errors.Refused refusal) core after later on c = tt
-later_cause (errors.StoreFault before now) core after later on c = let up = on.faults in let high = c.2 in (c.0, c.1, omega (arith, up, high))
-later_cause (errors.Missing key) core after later on c = tt
-later_cause (errors.Corrupt key) core after later on c = tt
-later_cause (errors.Foreign key) core after later on c = tt
-later_cause errors.Full core after later on c = tt
-later_cause (errors.Expired planned_at reached) core after later on c = tt
-later_cause errors.NoIndex core after later on c = tt
-later_cause errors.IndexExists core after later on c = tt
-later_cause (errors.BadConfig bad) core after later on c = tt
-
 later_end : (end : CollectorEnd) (core after later : Core) → GoesFor Nobody after later → IsEndCaused end core after → IsEndCaused end core later
 later_end ends.Nothing core after later on c = tt
-later_end (ends.Fault error) core after later on c = later_cause error core after later on c
+later_end (ends.Fault error) core after later on c = caused_later error core after later on c
 later_end ends.Turns core after later on c = tt
 later_end ends.Memory core after later on c = tt
 
@@ -239,6 +227,6 @@ pub did_later : (Between : Core → Core → Type 0) (turns : ℕ) (end : Collec
     CollectorDid Between turns end core made after → CollectorDid Between turns end core made later
 did_later Between turns end core made after later on d =
     record {
-      works = works_later (CollectorStep Between) (λ c. c) end_of ends.Turns turns end core made after later on d.works;
+      works = works_later (CollectorStep Between) (λ c. c) end_of (λ c. ⊤) ends.Turns turns end core made after later on d.works;
       cause = λ within. later_end end core after later on (d.cause within);
     }

@@ -44,5 +44,5 @@ IsEndCaused ends.Memory core after = ⊤
 
 -- WHAT A COLLECTOR DID from a core on, in so many turns at most: its steps up to this end, whose calls these are.
 pub record CollectorDid (Between : Core → Core → Type 0) (turns : ℕ) (end : CollectorEnd) (core : Core) (made : List CallMade) (after : Core) : Type 0 where
-  pub works : Works (CollectorStep Between) (λ c. c) end_of ends.Turns turns end core made after
+  pub works : Works (CollectorStep Between) (λ c. c) end_of ends.Turns (λ c. ⊤) turns end core made after
   pub cause : core.store_faults ≤ last_count → IsEndCaused end core after
