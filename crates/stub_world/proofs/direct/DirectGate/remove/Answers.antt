@@ -1,8 +1,0 @@
-use Rattle.stub_world.proofs.Sweeping.{does_alone_with}
-use Rattle.stub_world.proofs.direct.DirectGate.remove.Goals as goal
-
-pub returns-clause-step : goal.returns-clause-step
-returns-clause-step g c core log s = does_alone_with _ _ _ _ _ _ _ _ core log _ _ _ (λ after t. t) (c.remove.ensures.step core log s)
-
-pub returns-clause-answered : goal.returns-clause-answered
-returns-clause-answered g c = c.remove.ensures.answers
