@@ -42,6 +42,11 @@ calls_more (y ∷ ys) x = ap (λ l. y.made ++ l) (calls_more ys x) ∙ sym (appe
 one_longer : {X : Type 0} (xs : List X) (x : X) → length (xs ++ x ∷ []) ≡ length xs + 1
 one_longer xs x = length-append xs (x ∷ [])
 
+-- it is none of these
+pub none_of : {E : Type 0} (end : Option E) → ((e : E) → end ≡ Some e → ⊥) → end ≡ None
+none_of None none = refl
+none_of (Some e) none = absurd (none e refl)
+
 -- ---- whatever is told of what they work on
 
 module _ {S X E : Type 0} (Step : S → X → S → Type 0) (end_of : X → Option E) where

@@ -23,8 +23,8 @@ use Rattle.split_collector.specs.Turns.{Turn, behind_delete, behind_doom, behind
 use Rattle.split_collector.specs.declared.outcome.CollectorOutcome.{CollectorOutcome as Said}
 use Rattle.split_collector.specs.declared.outcome.CollectorOutcome.TheVariants as said
 use Rattle.loop_collect.specs.CollectAll.{CollectorDid, CollectorStep, IsEndCaused, end_of}
-use Rattle.loop_collect.specs.declared.collect_all.CollectorEnd.{CollectorEnd}
-use Rattle.loop_collect.specs.declared.collect_all.CollectorEnd.TheVariants as ends
+use Rattle.loop_collect.specs.declared.collecting.CollectorEnd.{CollectorEnd}
+use Rattle.loop_collect.specs.declared.collecting.CollectorEnd.TheVariants as ends
 
 -- ---- one step
 
@@ -149,7 +149,7 @@ module _ (low : ℕ) where
         later to_remove some past = record { says = tt; past = past }
         later (to_list behind) some past = record { says = tt; past = past }
         later (to_sweep number next) some past = record { says = tt; past = past }
-        later (ended outcome) some past = absurd some
+        later (ended outcome) some past = absurd (let e : false ≡ true = some in cc)
 
 -- ---- an end that is a fault of the store
 
@@ -160,7 +160,7 @@ fault_answer (Ok (said.Removed count)) error e = absurd cc
 fault_answer (Ok (said.Swept number)) error e = absurd cc
 fault_answer (Ok said.Nothing) error e = absurd cc
 fault_answer (Ok (said.Fault other)) error e = let same : other ≡ error = cc in ap (λ x. Ok (said.Fault x)) same
-fault_answer (Err refused) error e = absurd cc
+fault_answer (Err short) error e = absurd cc
 
 -- what the code said of a fault is what the machine said
 unmade_fault : (before now : ℕ) (unmade : Unmade) (outcome : Outcome) → IsUnmade (errors.StoreFault before now) unmade → failed_with unmade ≡ Some outcome → outcome ≡ Faulted (store_fault before now)

@@ -11,8 +11,8 @@ use Rattle.split_collector.specs.Standing.{Answers}
 use Rattle.split_collector.specs.Steps.{ArePassed, AreRecorded, Passage, ran, stand}
 use Rattle.split_collector.specs.Turns.{ended, to_mark}
 use Rattle.split_collector.specs.declared.outcome.CollectorOutcome.TheVariants as said
-use Rattle.loop_collect.specs.declared.collect_all.CollectorEnd.{CollectorEnd}
-use Rattle.loop_collect.specs.declared.collect_all.CollectorEnd.TheVariants as ends
+use Rattle.loop_collect.specs.declared.collecting.CollectorEnd.{CollectorEnd}
+use Rattle.loop_collect.specs.declared.collecting.CollectorEnd.TheVariants as ends
 
 -- whether a step that answered so is the last one, and with which end
 abbrev pub end_of : Told → Option CollectorEnd

@@ -1,6 +1,6 @@
 //! A collector's steps up to its end.
 #![tactic(auto)]
 
-mod collect_all;
+mod collecting;
 
-pub use collect_all::{CollectorEnd, collect_all};
+pub use collecting::{CollectorEnd, collect_all};

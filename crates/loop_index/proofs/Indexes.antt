@@ -37,8 +37,8 @@ use Rattle.loop_base.specs.Ran.{AreSteps, EndsBy, IsCaused, Ran, StepMade, Works
 use Rattle.loop_base.proofs.CallCauses.{Caused, FaultWithin, TroubleWithin, UnmadeWithin, appended_caused, as_given, asked_caused, file_caused, looked_caused}
 use Rattle.loop_base.proofs.Ran.{OneStep, Past, PastCause, caused_later, calls_more, end_cause, goes_then, last_step, ran_as, works_later}
 use Rattle.loop_index.specs.IndexAll.{AreAtEnds, Holds, IndexerAt, IndexerDid, IndexerStep, IsEndCaused, IsSourceCaused, SawEnds, Told, core_there, end_of, indexer_at}
-use Rattle.loop_index.specs.declared.index_all.IndexerEnd.{IndexerEnd}
-use Rattle.loop_index.specs.declared.index_all.IndexerEnd.TheVariants as ends
+use Rattle.loop_index.specs.declared.indexing.IndexerEnd.{IndexerEnd}
+use Rattle.loop_index.specs.declared.indexing.IndexerEnd.TheVariants as ends
 use Rattle.loop_index.proofs.Watching.{Begins, GoesOn, HasBegun, IsBehind, Leaves, PlaceWatched, ReadsNone, Watched, ends_of, idle_step, reading_step, staged_step, uploaded_step}
 
 -- ---- one step
@@ -238,7 +238,7 @@ fault_answer (Ok (said.Lost number refusal)) error e = absurd cc
 fault_answer (Ok (said.Refused refusal)) error e = absurd cc
 fault_answer (Ok (said.Fault other)) error e = let same : other ≡ error = cc in ap (λ x. Ok (said.Fault x)) same
 fault_answer (Ok (said.SourceFault before after)) error e = absurd cc
-fault_answer (Err refused) error e = absurd cc
+fault_answer (Err short) error e = absurd cc
 
 source_answer : (told : Told) (before now : ℕ) → end_of told ≡ Some (ends.SourceFault before now) → told ≡ Ok (said.SourceFault before now)
 source_answer (Ok said.Checkpoint) before now e = absurd cc
@@ -252,7 +252,7 @@ source_answer (Ok (said.Lost number refusal)) before now e = absurd cc
 source_answer (Ok (said.Refused refusal)) before now e = absurd cc
 source_answer (Ok (said.Fault other)) before now e = absurd cc
 source_answer (Ok (said.SourceFault b n)) before now e = let first : b ≡ before = cc in let second : n ≡ now = cc in (λ i. Ok (said.SourceFault (first i) (second i)))
-source_answer (Err refused) before now e = absurd cc
+source_answer (Err short) before now e = absurd cc
 
 caught_answer : (told : Told) → end_of told ≡ Some ends.CaughtUp → told ≡ Ok said.CaughtUp
 caught_answer (Ok said.Checkpoint) e = absurd cc
@@ -266,7 +266,7 @@ caught_answer (Ok (said.Lost number refusal)) e = absurd cc
 caught_answer (Ok (said.Refused refusal)) e = absurd cc
 caught_answer (Ok (said.Fault other)) e = absurd cc
 caught_answer (Ok (said.SourceFault before after)) e = absurd cc
-caught_answer (Err refused) e = absurd cc
+caught_answer (Err short) e = absurd cc
 
 same_fault : (x y : Fault) → faulted x ≡ faulted y → x ≡ y
 same_fault x y e = cc
@@ -429,6 +429,7 @@ module _ (Between : Core → Core → Type 0) (log : Log) (between_goes : (core 
 
     step_sees : (calls : List CallMade) (from : IndexerAt) (step : StepMade Told) (to : IndexerAt) → IndexerStep Between log from step to → partitions_for from.indexer.assignment log ≡ names →
         (place : IndexerPlace) → from.indexer.place ≡ place → Watches calls place → StepSees (calls ++ step.made) step.result to.indexer.place
+    unfolding saw_more
     step_sees calls from step to s same idle is w =
         let stepped : Stepped = record { outcome = s.outcome; indexer = to.indexer; core = to.core } in
         let P : Stepped → Type 0 = λ st. Begins log names st in

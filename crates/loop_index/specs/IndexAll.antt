@@ -24,8 +24,8 @@ use Rattle.indexing_run.specs.declared.indexer.Indexer.{Indexer as Reader}
 use Rattle.indexing_run.specs.declared.outcome.IndexerOutcome.{IndexerOutcome as Said}
 use Rattle.indexing_run.specs.declared.outcome.IndexerOutcome.TheVariants as said
 use Rattle.loop_base.specs.Ran.{IsCaused, StepMade, Works}
-use Rattle.loop_index.specs.declared.index_all.IndexerEnd.{IndexerEnd}
-use Rattle.loop_index.specs.declared.index_all.IndexerEnd.TheVariants as ends
+use Rattle.loop_index.specs.declared.indexing.IndexerEnd.{IndexerEnd}
+use Rattle.loop_index.specs.declared.indexing.IndexerEnd.TheVariants as ends
 
 -- what a step of the code gives
 abbrev pub Told : Type 0

@@ -1,6 +1,6 @@
 //! An indexer's steps up to its end.
 #![tactic(auto)]
 
-mod index_all;
+mod indexing;
 
-pub use index_all::{IndexerEnd, index_all};
+pub use indexing::{IndexerEnd, index_all};

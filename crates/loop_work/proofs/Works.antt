@@ -27,8 +27,8 @@ use Rattle.upkeep_run.specs.declared.work.Aim.TheVariants.{Deleting, Merging}
 use Rattle.upkeep_run.specs.declared.work.WorkerPlace.{WorkerPlace as HeldPlace}
 use Rattle.upkeep_run.specs.declared.outcome.UpkeepOutcome.TheVariants as said
 use Rattle.loop_work.specs.WorkAll.{Holds, IsEndCaused, WorkerAt, WorkerDid, WorkerStep, core_there, end_of, worker_at}
-use Rattle.loop_work.specs.declared.work_all.WorkerEnd.{WorkerEnd}
-use Rattle.loop_work.specs.declared.work_all.WorkerEnd.TheVariants as ends
+use Rattle.loop_work.specs.declared.working.WorkerEnd.{WorkerEnd}
+use Rattle.loop_work.specs.declared.working.WorkerEnd.TheVariants as ends
 
 -- ---- one step
 
@@ -167,7 +167,7 @@ fault_answer (Ok (said.Raised number)) error e = absurd cc
 fault_answer (Ok (said.Lost number refusal)) error e = absurd cc
 fault_answer (Ok (said.Refused refusal)) error e = absurd cc
 fault_answer (Ok (said.Fault other)) error e = let same : other ≡ error = cc in ap (λ x. Ok (said.Fault x)) same
-fault_answer (Err refused) error e = absurd cc
+fault_answer (Err short) error e = absurd cc
 
 answer_fault : (before now : ℕ) (outcome : Option UpkeepOutcome) → Answers (Ok (said.Fault (errors.StoreFault before now))) outcome → outcome ≡ Some (Faulted (store_fault before now))
 answer_fault before now None a = absurd a

@@ -19,8 +19,8 @@ use Rattle.upkeep_run.specs.Steps.{WorkerLuck, step_worker}
 use Rattle.upkeep_run.specs.declared.work.Aim.{Aim}
 use Rattle.upkeep_run.specs.declared.work.WorkerPlace.{WorkerPlace as HeldPlace}
 use Rattle.upkeep_run.specs.declared.outcome.UpkeepOutcome.TheVariants as said
-use Rattle.loop_work.specs.declared.work_all.WorkerEnd.{WorkerEnd}
-use Rattle.loop_work.specs.declared.work_all.WorkerEnd.TheVariants as ends
+use Rattle.loop_work.specs.declared.working.WorkerEnd.{WorkerEnd}
+use Rattle.loop_work.specs.declared.working.WorkerEnd.TheVariants as ends
 
 -- whether a step that answered so is the last one, and with which end
 abbrev pub end_of : Told → Option WorkerEnd

@@ -1,6 +1,6 @@
 //! The steps of a merger and of a delete worker up to their ends.
 #![tactic(auto)]
 
-mod work_all;
+mod working;
 
-pub use work_all::{WorkerEnd, delete_all, merge_all};
+pub use working::{WorkerEnd, delete_all, merge_all};

@@ -4,7 +4,7 @@ use Rattle.indexing_run.specs.Places.{Indexer}
 use Rattle.indexing_run.specs.Standing.{HoldsOwn, IndexerStands}
 use Rattle.loop_base.proofs.Ran.{Going, SoFar}
 use Rattle.loop_index.specs.IndexAll.{Holds, IndexerStep, IndexesOnce, core_there, end_of, indexer_at, reader_at}
-use Rattle.loop_index.proofs.index_all.index_all.Given as goal
+use Rattle.loop_index.proofs.indexing.index_all.Given as goal
 
 abbrev pub invariant-loop : goal.invariant-loop
 invariant-loop g l =

@@ -5,7 +5,7 @@ use Rattle.upkeep_run.specs.Places.{WorkerPlace}
 use Rattle.upkeep_run.specs.Standing.{HoldsOwn, PlaceStands}
 use Rattle.upkeep_run.specs.declared.work.Aim.TheVariants.{Deleting}
 use Rattle.loop_work.specs.WorkAll.{Holds, HeldAt, DeletesOnce, WorkerStep, core_there, end_of, held_at, worker_at}
-use Rattle.loop_work.proofs.work_all.delete_all.Given as goal
+use Rattle.loop_work.proofs.working.delete_all.Given as goal
 
 abbrev pub invariant-loop : goal.invariant-loop
 invariant-loop g l =

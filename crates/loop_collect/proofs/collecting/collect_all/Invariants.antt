@@ -6,7 +6,7 @@ use Rattle.loop_base.proofs.Ran.{Going, SoFar}
 use Rattle.split_collector.specs.Ending.{CallsTo}
 use Rattle.split_collector.specs.Turns.{ended, to_mark}
 use Rattle.loop_collect.specs.CollectAll.{CollectorStep, end_of}
-use Rattle.loop_collect.proofs.collect_all.collect_all.Given as goal
+use Rattle.loop_collect.proofs.collecting.collect_all.Given as goal
 
 abbrev pub invariant-loop : goal.invariant-loop
 invariant-loop g l =
