@@ -1,0 +1,8 @@
+//! Requests of clients, each answered to its reply.
+#![tactic(auto)]
+
+mod answering;
+mod leaf_hold;
+
+pub use answering::answer;
+pub use leaf_hold::{LeafHold, NoHold};
