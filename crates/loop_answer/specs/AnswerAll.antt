@@ -1,5 +1,5 @@
 -- What a searcher does for a request of its client.
-use Rattle.std.specs.Prelude.{◌≡◌, ◌≤◌, ℕ, Bool, List, ◌∷◌, Option, Some, None, Result, Ok, Err}
+use Rattle.std.specs.Prelude.{◌≡◌, ◌≢◌, ◌⊎◌, ◌≤◌, ℕ, Bool, List, [], ◌∷◌, ◌++◌, Option, Some, None, Result, Ok, Err, ⊤}
 use Rattle.std.specs.declared.alloc.AllocError.{AllocError}
 use Rattle.source_log.specs.Log.{Log}
 use Rattle.index_world.specs.CallsMade.{CallMade}
@@ -64,3 +64,47 @@ pub record RequestDid (Between : Core → Core → Type 0) (log : Log) (text : L
   pub calls : made ≡ calls_of steps
   pub goes_on : GoesFor Nobody last.core after
   pub ended : IsLastEnd (λ (step : StepMade Told). reply_of step.result) steps result
+
+-- ---- the requests of a client, one after another
+
+-- a request, and what it was answered
+pub record Answered : Type 0 where
+  pub text : List ℕ
+  pub result : Result Reply AllocError
+
+-- a request from where the one before it left the client: its own calls, of its own steps alone
+pub record RequestStep (Between : Core → Core → Type 0) (log : Log) (from : ClientAt) (step : StepMade Answered) (to : ClientAt) : Type 0 where
+  pub steps : List (StepMade Told)
+  pub last : ClientAt
+  pub are : AreSteps (ClientStep Between log) (client_at (with_text step.result.text from.client) from.core) steps last
+  pub calls : step.made ≡ calls_of steps
+  pub ended : IsLastEnd (λ (s : StepMade Told). reply_of s.result) steps step.result.result
+  pub same : to.client ≡ last.client
+  pub goes_on : GoesFor Nobody last.core to.core
+
+-- these texts were answered by these replies, one each
+abbrev pub AreReplies : List (StepMade Answered) → (texts : List (List ℕ)) → List Reply → Type 0
+AreReplies [] [] [] = ⊤
+AreReplies [] [] (reply ∷ replies) = ⊥
+AreReplies [] (text ∷ texts) replies = ⊥
+AreReplies (step ∷ steps) [] replies = ⊥
+AreReplies (step ∷ steps) (text ∷ texts) [] = ⊥
+AreReplies (step ∷ steps) (text ∷ texts) (reply ∷ replies) = (step.result.text ≡ text) × (step.result.result ≡ Ok reply) × AreReplies steps texts replies
+
+-- Each was; or there was no memory: the first ones were, and of the others one may have been begun.
+abbrev pub AnswersAll : List (StepMade Answered) → (texts : List (List ℕ)) → List Reply → Result (Unit {0}) AllocError → Type 0
+AnswersAll steps texts replies (Ok done) = AreReplies steps texts replies
+AnswersAll steps texts replies (Err short) =
+    (answered : List (StepMade Answered)) × (first rest : List (List ℕ)) × (begun : List (StepMade Answered)) × (steps ≡ answered ++ begun) × (texts ≡ first ++ rest) × AreReplies answered first replies
+    × ((begun ≡ []) ⊎ ((step : StepMade Answered) × (begun ≡ step ∷ []) × (rest ≢ [])))
+
+-- WHAT A CLIENT WAS ANSWERED from a core on: each of its requests has its own stretch of the calls, in their order.
+pub record ClientDid (Between : Core → Core → Type 0) (log : Log) (texts : List (List ℕ)) (replies : List Reply) (result : Result (Unit {0}) AllocError) (searcher : Searcher) (client : Client) (core : Core)
+    (made : List CallMade) (after : Core) : Type 0 where
+  pub requests : List (StepMade Answered)
+  pub last : ClientAt
+  pub are : AreSteps (RequestStep Between log) (client_at client core) requests last
+  pub left : SearcherStands searcher last.client last.core log
+  pub calls : made ≡ calls_of requests
+  pub goes_on : GoesFor Nobody last.core after
+  pub answers : AnswersAll requests texts replies result

@@ -1,13 +1,13 @@
 //! One request of a client, step by step to its reply.
 
-ghost use Rattle.std.specs.Prelude.{◌≡◌, ℕ, List, Ok, Err, IfOk, alloc_error};
+ghost use Rattle.std.specs.Prelude.{◌≡◌, ℕ, List, [], Ok, Err, IfOk, alloc_error};
 ghost use Rattle.source_log.specs.Log.{IsLog, Log};
 ghost use Rattle.index_world.specs.Core.{Core};
 ghost use Rattle.loop_base.specs.Ran.{Ran};
 ghost use Rattle.root_search.specs.Searching.{SearcherStands};
 ghost use Rattle.root_search.specs.Steps.{Client as Asker};
 ghost use Rattle.root_search.specs.declared.searcher.Request.TheVariants as requests;
-ghost use Rattle.loop_answer.specs.AnswerAll.{RequestDid};
+ghost use Rattle.loop_answer.specs.AnswerAll.{ClientDid, RequestDid};
 
 use crate::leaf_hold::LeafHold;
 use byte_fields::Text;
@@ -69,4 +69,30 @@ pub fn answer<Rt: Threads + Sync, G: Gate, H: LeafHold>(
         SearchStep::Planned { .. } => dropped(searcher),
         SearchStep::Fetched { .. } => dropped(searcher),
     }
+}
+
+/// Answers the requests of a client that has none, one after another, as long as there is memory. The hold is told of each reply.
+pub fn answer_all<Rt: Threads + Sync, G: Gate, H: LeafHold>(
+    rt: &Rt,
+    alloc: Global,
+    gate: &mut G,
+    searcher: &mut Searcher,
+    texts: Vec<Text>,
+    hold: &H,
+    replies: &mut Vec<Reply>,
+) -> Result<(), AllocError>
+    requires vacant { searcher.old.request ≡ requests.Vacant }
+    requires none { replies.old.items ≡ [] }
+    ensures vacant { searcher.new.request ≡ requests.Vacant }
+    ensures client { searcher.new.client ≡ searcher.old.client }
+    ensures ran { (asker : Asker) (core : Core) (log : Log) → IsLog log → G.Stands gate.old core log → SearcherStands searcher.old asker core log →
+        Ran G.Stands G.Adds (λ made after. ClientDid G.Between log texts.items replies.new.items result searcher.new asker core made after) core log gate.old gate.new }
+{
+    for text in texts {
+        replies.reserve(1)?;
+        let reply = answer(rt, alloc, gate, searcher, text, hold)?;
+        hold.after_reply(searcher.client());
+        replies.push(reply)?;
+    }
+    Ok(())
 }

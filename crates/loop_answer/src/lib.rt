@@ -4,5 +4,5 @@
 mod answering;
 mod leaf_hold;
 
-pub use answering::answer;
+pub use answering::{answer, answer_all};
 pub use leaf_hold::{LeafHold, NoHold};
