@@ -13,10 +13,10 @@ use Rattle.object_store.specs.declared.store.Piece.{Piece}
 use Rattle.split_bundle.specs.Reading.{footer_of}
 use Rattle.split_bundle.specs.declared.footer.Footer.{Footer}
 use Rattle.root_search.specs.FetchCalls.{AreFetches, AreKeptBehind, FetchCall, HasGiven, HasNoStart, HaveFailed, IsEndGiven, IsFaultWhere, IsFetch, IsPartLooked, IsPartRead, IsPieceRead, NeverRefused, ReadsAs, SaysRead, gave, kept_by, kept_of, read_of, start_of}
+use Rattle.root_search.specs.declared.fetched_splits.FetchedSplit.{FetchedSplit}
+use Rattle.root_search.specs.declared.fetched_splits.KeptPiece.{KeptPiece}
 use Rattle.root_search.specs.declared.fetching.FetchError.{FetchError}
 use Rattle.root_search.specs.declared.fetching.FetchError.TheVariants.{Memory, World, Corrupt}
-use Rattle.root_search.specs.declared.split_parts.KeptPiece.{KeptPiece}
-use Rattle.root_search.specs.declared.split_parts.FetchedSplit.{FetchedSplit}
 
 -- ---- calls behind others
 

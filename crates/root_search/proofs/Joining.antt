@@ -20,10 +20,9 @@ use Rattle.leaf_search.specs.Answers.{AsksLeaf, IsAnswerOf, IsAsked, found, pass
 use Rattle.leaf_search.specs.declared.request.LeafAnswer.{LeafAnswer}
 use Rattle.leaf_search.specs.declared.request.LeafRequest.{LeafRequest}
 use Rattle.leaf_search.proofs.Suffices.{held_memory}
-use Rattle.root_search.specs.Leaves.{AllJoined, AreJoined, AreSomeOf, FailsFirst, HasAsked, HasCauseIn, IsCounted, IsFaultIn, IsFull, IsJoinOf, IsLeafAnswer, IsNoLeaf, IsRefusedIn, IsViewOf, IsWholeViewOf, LeafGives, WantsMemory, all_hits, all_of, all_ok, count_in, placed_fault}
-use Rattle.root_search.specs.declared.splits_error.JoinFault.{JoinFault}
-use Rattle.root_search.specs.declared.splits_error.JoinFault.TheVariants.{Corrupt, Memory, Missing, TooMany}
-use Rattle.root_search.proofs.ShareJoins.{whole_give, whole_joined, whole_shares}
+use Rattle.root_search.specs.Leaves.{AllJoined, AreJoined, AreSomeOf, FailsFirst, HasAsked, HasCauseIn, IsCounted, IsFaultIn, IsFull, IsLeafAnswer, IsNoLeaf, IsRefusedIn, IsViewOf, IsWholeJoin, IsWholeViewOf, LeafGives, WantsMemory, all_hits, all_of, all_ok, count_in, placed_fault}
+use Rattle.root_search.specs.declared.join_fault.JoinFault.{JoinFault}
+use Rattle.root_search.specs.declared.join_fault.JoinFault.TheVariants.{Corrupt, Memory, Missing, TooMany}
 
 -- ---- one more of a list
 
@@ -532,8 +531,7 @@ all_give s r [] (a ∷ given) h = absurd h
 all_give s r (v ∷ views) [] h = absurd h
 all_give s r (v ∷ views) (a ∷ given) h = (h.0, all_give s r views given h.1)
 
-pub join_of : (s : Schema) (r : LeafRequest) (views : List PartView) (answers : List (Result LeafAnswer LeafError)) (result : Result LeafAnswer JoinFault) → AllZip (IsLeafAnswer s r) views answers → IfOk result (AllJoined r answers) → IfOk result (IsJoinOf s r views)
+pub join_of : (s : Schema) (r : LeafRequest) (views : List PartView) (answers : List (Result LeafAnswer LeafError)) (result : Result LeafAnswer JoinFault) → AllZip (IsLeafAnswer s r) views answers → IfOk result (AllJoined r answers) → IfOk result (IsWholeJoin s r views)
 join_of s r views answers (Ok all) leaves h =
-    let give = all_give s r views h.0 (subst (λ (l : List (Result LeafAnswer LeafError)). AllZip (IsLeafAnswer s r) views l) h.1 leaves) in
-    record { shares = whole_shares r h.0; are_leaves = whole_give s r views h.0 give; joined = whole_joined r h.0 all h.2 }
+    record { answers = h.0; are_leaves = all_give s r views h.0 (subst (λ (l : List (Result LeafAnswer LeafError)). AllZip (IsLeafAnswer s r) views l) h.1 leaves); joined = h.2 }
 join_of s r views answers (Err e) leaves h = tt

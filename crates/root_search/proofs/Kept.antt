@@ -14,8 +14,8 @@ use Rattle.split_bundle.specs.declared.footer.Footer.{Footer}
 use Rattle.root_search.specs.Footers.{KeepsMore, entries}
 use Rattle.root_search.specs.Searching.{AreKept, IsKept}
 use Rattle.root_search.specs.FetchedSplits.{IsFooterIn, IsKnown, piece_at, pieces_at}
+use Rattle.root_search.specs.declared.fetched_splits.KeptPiece.{KeptPiece}
 use Rattle.root_search.specs.declared.footers.Footers.{Footers}
-use Rattle.root_search.specs.declared.split_parts.KeptPiece.{KeptPiece}
 
 kept_is : (piece : KeptPiece) (start : ℕ) (bytes : List ℕ) → piece.start ≡ start → piece.bytes ≡ bytes → piece ≡ record { start = start; bytes = bytes }
 kept_is piece start bytes a b = ap₂ (λ (x : ℕ) (y : List ℕ). let it : KeptPiece = record { start = x; bytes = y } in it) a b

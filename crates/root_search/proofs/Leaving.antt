@@ -9,6 +9,7 @@ use Rattle.search_api.specs.declared.reply.Said.{Said}
 use Rattle.split_bundle.specs.declared.footer.Footer.{Footer}
 use Rattle.root_search.specs.Footers.{KeepsMore, entries}
 use Rattle.root_search.specs.Leaving.{IsOwn, KeepsFooters, LeavesOf, StepLeaves, Works}
+use Rattle.root_search.specs.declared.fetched_splits.FetchedSplit.{FetchedSplit}
 use Rattle.root_search.specs.declared.footers.Footers.{Footers}
 use Rattle.root_search.specs.declared.outcome.SearchStep.{SearchStep}
 use Rattle.root_search.specs.declared.outcome.SearchStep.TheVariants.{Fetched, Planned, Replied}
@@ -16,7 +17,6 @@ use Rattle.root_search.specs.declared.planned.Planned.{Planned as GivenPlan}
 use Rattle.root_search.specs.declared.searcher.Request.{Request}
 use Rattle.root_search.specs.declared.searcher.Request.TheVariants as requests
 use Rattle.root_search.specs.declared.searcher.Searcher.{Searcher}
-use Rattle.root_search.specs.declared.split_parts.FetchedSplit.{FetchedSplit}
 
 -- without memory
 pub works_short : (old new : Searcher) (r : Result SearchStep AllocError) → IsErr r → new.client ≡ old.client → new.front ≡ old.front → new.request ≡ requests.Vacant → Works old r new

@@ -6,6 +6,7 @@ pub mod Counting
 pub mod Showing
 pub mod ShareHits
 pub mod ShareJoins
+pub mod ShareLaws
 pub mod Joining
 pub mod Wholes
 pub mod Zipped

@@ -28,10 +28,10 @@ use Rattle.split_bundle.specs.declared.placed.Placed.{Placed}
 use Rattle.doc_value.specs.declared.schema.Schema.{Schema}
 use Rattle.root_search.specs.Fetching.{AreBlocksFetched, AreListsFetched, AreShownFetched, AreStartsNamed, FetchesAs, IsFileAt, IsFooterFetched, IsLooked, IsPartFetched, WantsRoom, footer_calls, footer_drawn, needed_calls, part_calls}
 use Rattle.root_search.specs.FetchedSplits.{HoldsBlocks, HoldsListed, HoldsStarts, IsFooterIn, over, piece_at, pieces_at}
+use Rattle.root_search.specs.declared.fetched_splits.FetchedSplit.{FetchedSplit}
+use Rattle.root_search.specs.declared.fetched_splits.KeptPiece.{KeptPiece}
 use Rattle.root_search.specs.declared.fetching.FetchError.{FetchError}
 use Rattle.root_search.specs.declared.fetching.ShownStarts.{ShownStarts}
-use Rattle.root_search.specs.declared.split_parts.KeptPiece.{KeptPiece}
-use Rattle.root_search.specs.declared.split_parts.FetchedSplit.{FetchedSplit}
 use Rattle.root_search.proofs.Fetches.{AddsMore, all_done, file_stands, made_of, then_failed, then_given}
 use Rattle.root_search.proofs.SameFooters.{starts_alike}
 use Rattle.root_search.proofs.Stands.{configured_after}

@@ -34,8 +34,8 @@ use Rattle.leaf_search.proofs.ShownParts.{shown_below}
 use Rattle.leaf_search.proofs.Suffices.{behind_there, document_within, else_there, inside_there, none, wider_part}
 use Rattle.root_search.specs.Leaves.{HasAsked}
 use Rattle.root_search.specs.FetchedSplits.{HasNeeded, HoldsBlocks, HoldsListed, HoldsStarts, IsLentOf, over, piece_at, pieces_at}
-use Rattle.root_search.specs.declared.split_parts.KeptPiece.{KeptPiece}
-use Rattle.root_search.specs.declared.split_parts.FetchedSplit.{FetchedSplit}
+use Rattle.root_search.specs.declared.fetched_splits.FetchedSplit.{FetchedSplit}
+use Rattle.root_search.specs.declared.fetched_splits.KeptPiece.{KeptPiece}
 use Rattle.root_search.proofs.SameFooters.{blocks_alike, listed_alike, starts_alike}
 
 -- ---- pieces of a file

@@ -11,8 +11,8 @@ use Rattle.split_bundle.specs.declared.placed.Placed.{Placed}
 use Rattle.root_search.specs.Leaves.{HasAsked}
 use Rattle.root_search.specs.PartAnswers.{IsViewOfPart}
 use Rattle.root_search.specs.FetchedSplits.{HasNeeded, IsParted, beside_footer}
-use Rattle.root_search.specs.declared.split_parts.FetchedPieces.{FetchedPieces}
-use Rattle.root_search.specs.declared.split_parts.FetchedSplit.{FetchedSplit}
+use Rattle.root_search.specs.declared.fetched_splits.FetchedPieces.{FetchedPieces}
+use Rattle.root_search.specs.declared.fetched_splits.FetchedSplit.{FetchedSplit}
 use Rattle.root_search.proofs.PartViews.{has_asked}
 use Rattle.root_search.proofs.Zipped.{zip_last}
 

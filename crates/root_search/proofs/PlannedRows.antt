@@ -47,12 +47,12 @@ use Rattle.root_search.specs.declared.leaf_asks.LeafAsk.{LeafAsk}
 use Rattle.root_search.specs.declared.reads.ReadSearch.{ReadSearch}
 use Rattle.root_search.specs.Footers.{KeepsMore, entries}
 use Rattle.root_search.specs.FetchedSplits.{HasNeeded, IsFooterIn}
+use Rattle.root_search.specs.declared.fetched_splits.FetchedSplit.{FetchedSplit}
 use Rattle.root_search.specs.declared.footers.Footers.{Footers}
 use Rattle.root_search.specs.declared.outcome.SearchStep.TheVariants as steps
 use Rattle.root_search.specs.declared.planned.Planned.{Planned as GivenPlan}
 use Rattle.root_search.specs.declared.searcher.Request.TheVariants as given
 use Rattle.root_search.specs.declared.searcher.Searcher.{Searcher}
-use Rattle.root_search.specs.declared.split_parts.FetchedSplit.{FetchedSplit}
 use Rattle.root_search.specs.Searching.{AreKnown, IsInHand, IsKnownOf, history_at, published_at, rows_at, documents_at, IsPlanned, IsAtWork, Ends}
 use Rattle.root_search.specs.Steps.{Plan, Client, config_at, config_in, grace_at, planned_numbers, with_plan}
 use Rattle.root_search.proofs.Kept.{was_kept}

@@ -21,6 +21,7 @@ use Rattle.root_search.specs.Fetching.{FetchesAs}
 use Rattle.root_search.specs.Footers.{entries}
 use Rattle.root_search.specs.PartAnswers.{IsSaidOver}
 use Rattle.root_search.specs.StepReads.{FetchesRow, IsFetchRefusal, IsNoSplit, Refuses, SaysFetching, SaysOver}
+use Rattle.root_search.specs.declared.fetched_splits.FetchedSplit.{FetchedSplit}
 use Rattle.root_search.specs.declared.fetching.FetchError.{FetchError}
 use Rattle.root_search.specs.declared.fetching.FetchError.TheVariants.{Memory, World, Corrupt}
 use Rattle.root_search.specs.declared.footers.Footers.{Footers}
@@ -29,7 +30,6 @@ use Rattle.root_search.specs.declared.outcome.SearchStep.TheVariants.{Fetched, I
 use Rattle.root_search.specs.declared.planned.Planned.{Planned as GivenPlan}
 use Rattle.root_search.specs.declared.searcher.Request.{Request as GivenRequest}
 use Rattle.root_search.specs.declared.searcher.Request.TheVariants as given
-use Rattle.root_search.specs.declared.split_parts.FetchedSplit.{FetchedSplit}
 
 -- there is no row behind the last one
 pub no_row : (rows : List PlanRow) (n : ℕ) (row : PlanRow) → slice_get rows n ≡ Some row → length rows ≤ n → ⊥

@@ -1,5 +1,5 @@
 -- What the hits that a split gave tell of those that it did not give.
-use Rattle.std.proofs.Common.{◌≡◌, Option, None, IfNone, ℕ, zero, suc, ◌+◌, ◌-◌, ◌<◌, ◌≤◌, Bool, true, false, not, List, [], ◌∷◌, ◌++◌, count_by, length, take, drop, slice_get, Some, refl, ap, sym, subst, ◌∙◌, arith, append_assoc, append-nil, length-append}
+use Rattle.std.proofs.Common.{◌≡◌, inl, inr, Option, None, IfNone, ℕ, zero, suc, ◌+◌, ◌-◌, ◌<◌, ◌≤◌, Bool, true, false, List, [], ◌∷◌, ◌++◌, count_by, length, take, drop, slice_get, Some, refl, ap, sym, subst, ◌∙◌, arith, append_assoc, append-nil, length-append}
 use Rattle.std.specs.Bool.{OnTrue}
 use Rattle.std.specs.Cmp.{IsStrictWeakOrder}
 use Rattle.std.specs.List.{AllByRecursion, AllZip, filter}
@@ -120,9 +120,6 @@ zip_whole order wanted [] (own ∷ lists) whole parts are = absurd are
 zip_whole order wanted (g ∷ shares) [] whole parts are = absurd are
 zip_whole order wanted (g ∷ shares) (own ∷ lists) whole parts are = (whole.0 own parts.0 are.0, zip_whole order wanted shares lists whole.1 parts.1 are.1)
 
-pub all_whole : (order : Option HitOrder) (wanted : ℕ) (shares : List SplitShare) → AllByRecursion (IsWhole order wanted) shares → AreEnough order wanted shares
-all_whole order wanted shares whole = λ lists parts are. whole_joined (comes_before order) (hits_order order) wanted lists (hits_in shares) (zip_whole order wanted shares lists whole parts are)
-
 zip_used : (order : Option HitOrder) (wanted : ℕ) (z : Placed) (shares : List SplitShare) (lists : List (List Placed)) → AllByRecursion (IsUsedUp order wanted z) shares → AllByRecursion (IsPart wanted) shares → AllZip (IsFirstOf order) shares lists
     → AllZip (IsShare (comes_before order) wanted z) lists (hits_in shares)
 zip_used order wanted z [] [] used parts are = tt
@@ -130,5 +127,9 @@ zip_used order wanted z [] (own ∷ lists) used parts are = absurd are
 zip_used order wanted z (g ∷ shares) [] used parts are = absurd are
 zip_used order wanted z (g ∷ shares) (own ∷ lists) used parts are = (used.0 own parts.0 are.0, zip_used order wanted z shares lists used.1 parts.1 are.1)
 
-pub all_used : (order : Option HitOrder) (wanted : ℕ) (z : Placed) (shares : List SplitShare) → wanted ≤ length (filter (λ y. not (comes_before order z y)) (joined (hits_in shares))) → AllByRecursion (IsUsedUp order wanted z) shares → AreEnough order wanted shares
-all_used order wanted z shares enough used = λ lists parts are. shares_enough (comes_before order) (hits_order order) wanted z lists (hits_in shares) (zip_used order wanted z shares lists used parts are) enough
+-- of whatever lists they have the first hits, the first of all are among theirs
+pub firsts_among : (order : Option HitOrder) (wanted : ℕ) (shares : List SplitShare) (lists : List (List Placed)) → AreEnough order wanted shares → AllByRecursion (IsPart wanted) shares → AllZip (IsFirstOf order) shares lists
+    → firsts wanted order (joined lists) ≡ firsts wanted order (joined (hits_in shares))
+firsts_among order wanted shares lists (inl whole) parts are = whole_joined (comes_before order) (hits_order order) wanted lists (hits_in shares) (zip_whole order wanted shares lists whole parts are)
+firsts_among order wanted shares lists (inr used) parts are =
+    shares_enough (comes_before order) (hits_order order) wanted used.0 lists (hits_in shares) (zip_used order wanted used.0 shares lists used.2 parts are) used.1

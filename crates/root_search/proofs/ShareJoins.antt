@@ -1,5 +1,5 @@
 -- Shares of splits, joined.
-use Rattle.std.proofs.Common.{◌≡◌, ℕ, ◌≤◌, List, [], ◌∷◌, ◌++◌, length, map, sum_by, ◌&&◌, Result, Ok, Err, IfOk, IfSome, Option, Some, None, refl, ap, sym, subst, ◌∙◌, arith, append_assoc, append-nil, length-append}
+use Rattle.std.proofs.Common.{◌≡◌, ℕ, ◌<◌, ◌≤◌, inl, List, [], ◌∷◌, ◌++◌, length, map, sum_by, ◌&&◌, Result, Ok, Err, IfOk, IfSome, Option, Some, None, refl, ap, sym, subst, ◌∙◌, arith, append_assoc, append-nil, length-append}
 use Rattle.std.specs.List.{All, AllByRecursion, AllZip, filter}
 use Rattle.std.proofs.lemmas.List.Elements.{All-from_recursion, filter-append}
 use Rattle.std.proofs.lemmas.List.Sums.{sum_by-cons}
@@ -23,68 +23,36 @@ use Rattle.doc_sets.specs.declared.leaf_error.LeafError.{LeafError}
 use Rattle.leaf_search.specs.Answers.{IsAnswerOf, IsAsked, found}
 use Rattle.leaf_search.specs.declared.request.LeafAnswer.{LeafAnswer}
 use Rattle.leaf_search.specs.declared.request.LeafRequest.{LeafRequest}
-use Rattle.root_search.specs.Leaves.{AllJoined, AreJoined, AreSharesJoined, AsksAlike, GivesShare, IsCounted, IsJoinOf, IsLeafAnswer, IsShareOf, IsViewOf, LeafGives, all_of, all_ok, answers_in}
+use Rattle.root_search.specs.Leaves.{AllJoined, AreJoined, AsksAlike, GivesShare, IsCounted, IsJoinOf, IsLeafAnswer, IsShareJoin, IsShareOf, IsViewOf, IsWholeJoin, LeafGives, all_of, all_ok, answers_in}
 use Rattle.root_search.specs.Shares.{AreEnough, IsFirstOf, IsPart, hits_in}
+use Rattle.root_search.specs.declared.join_fault.JoinFault.{JoinFault}
 use Rattle.root_search.specs.declared.shares.SplitShare.{SplitShare}
-use Rattle.root_search.proofs.ShareHits.{own_firsts}
+use Rattle.root_search.proofs.ShareHits.{firsts_among, own_firsts}
 use Rattle.root_search.proofs.Zipped.{zip_last}
 
 pub some_is : {X : Type 0} (P : X → Type 0) (o : Option X) (x : X) → IfSome o P → o ≡ Some x → P x
 some_is {X = X} P o x h e = subst (λ (p : Option X). IfSome p P) e h
 
--- ---- answers of which all hits are wanted
-
-whole_share : LeafRequest → LeafAnswer → SplitShare
-whole_share r a = record { wanted = r.wanted; answer = a }
-
-pub whole_shares : LeafRequest → List LeafAnswer → List SplitShare
-whole_shares r answers = map (whole_share r) answers
-
-pub whole_give : (s : Schema) (r : LeafRequest) (views : List PartView) (answers : List LeafAnswer) → AllZip (LeafGives s r) views answers → AllZip (GivesShare s r) views (whole_shares r answers)
-unfolding whole_shares whole_share
-whole_give s r [] [] h = tt
-whole_give s r [] (a ∷ answers) h = absurd h
-whole_give s r (v ∷ views) [] h = absurd h
-whole_give s r (v ∷ views) (a ∷ answers) h =
-    (record { asked = r; alike = record { query = refl; times = refl; order = refl; aggs = refl }; wanted = refl; few = omega arith; is_leaf = h.0 }, whole_give s r views answers h.1)
-
-answers_back : (r : LeafRequest) (answers : List LeafAnswer) → answers_in (whole_shares r answers) ≡ answers
-unfolding whole_shares whole_share
-answers_back r [] = refl
-answers_back r (a ∷ answers) = ap (λ (l : List LeafAnswer). a ∷ l) (answers_back r answers)
-
-whole_firsts : (r : LeafRequest) (answers : List LeafAnswer) (lists : List (List Placed)) → AllZip (IsFirstOf r.order) (whole_shares r answers) lists → AllZip (λ (a : LeafAnswer) (own : List Placed). a.hits ≡ firsts r.wanted r.order own) answers lists
-unfolding whole_shares whole_share
-whole_firsts r [] [] h = tt
-whole_firsts r [] (own ∷ lists) h = absurd h
-whole_firsts r (a ∷ answers) [] h = absurd h
-whole_firsts r (a ∷ answers) (own ∷ lists) h = (h.0, whole_firsts r answers lists h.1)
-
-pub whole_joined : (r : LeafRequest) (answers : List LeafAnswer) (all : LeafAnswer) → AreJoined r answers all → AreSharesJoined r (whole_shares r answers) all
-unfolding whole_shares whole_share
-whole_joined r answers all j =
-    let back = subst (λ (l : List LeafAnswer). AreJoined r l all) (sym (answers_back r answers)) j in
-    record { count = back.count; drawn = back.drawn; hits = λ lists h. j.hits lists (whole_firsts r answers lists h); partial = back.partial }
-
 -- ---- shares
 
 -- what splits answered, where so many hits were wanted of each
-pub shares_give : (s : Schema) (r asked : LeafRequest) (wanted : ℕ) (views : List PartView) (answers : List (Result LeafAnswer LeafError)) (shares : List SplitShare) → AsksAlike r asked → asked.wanted ≡ wanted → wanted ≤ r.wanted
+pub shares_give : (s : Schema) (r asked : LeafRequest) (wanted : ℕ) (views : List PartView) (answers : List (Result LeafAnswer LeafError)) (shares : List SplitShare) → AsksAlike r asked → asked.wanted ≡ wanted → 0 < wanted → wanted ≤ r.wanted
     → AllZip (IsLeafAnswer s asked) views answers → AllZip (IsShareOf wanted) answers shares → AllZip (GivesShare s r) views shares
-shares_give s r asked wanted [] [] [] alike e few leaves are = tt
-shares_give s r asked wanted [] [] (g ∷ shares) alike e few leaves are = absurd are
-shares_give s r asked wanted [] (a ∷ answers) shares alike e few leaves are = absurd leaves
-shares_give s r asked wanted (v ∷ views) [] shares alike e few leaves are = absurd leaves
-shares_give s r asked wanted (v ∷ views) (a ∷ answers) [] alike e few leaves are = absurd are
-shares_give s r asked wanted (v ∷ views) (a ∷ answers) (g ∷ shares) alike e few leaves are =
+shares_give s r asked wanted [] [] [] alike e some few leaves are = tt
+shares_give s r asked wanted [] [] (g ∷ shares) alike e some few leaves are = absurd are
+shares_give s r asked wanted [] (a ∷ answers) shares alike e some few leaves are = absurd leaves
+shares_give s r asked wanted (v ∷ views) [] shares alike e some few leaves are = absurd leaves
+shares_give s r asked wanted (v ∷ views) (a ∷ answers) [] alike e some few leaves are = absurd are
+shares_give s r asked wanted (v ∷ views) (a ∷ answers) (g ∷ shares) alike e some few leaves are =
     let same : g.wanted ≡ wanted = are.0.1 in
-    (record { asked = asked; alike = alike; wanted = e ∙ sym same; few = omega (arith, same, few); is_leaf = subst (IsLeafAnswer s asked v) are.0.0 leaves.0 }, shares_give s r asked wanted views answers shares alike e few leaves.1 are.1)
+    let here : LeafGives s asked v g.answer = subst (IsLeafAnswer s asked v) are.0.0 leaves.0 in
+    (record { asked = asked; alike = alike; wanted = e ∙ sym same; some = omega (arith, same, some); few = omega (arith, same, few); is_leaf = here }, shares_give s r asked wanted views answers shares alike e some few leaves.1 are.1)
 
-pub shares_given : (s : Schema) (r asked : LeafRequest) (wanted : ℕ) (views : List PartView) (answers : List (Result LeafAnswer LeafError)) (result : Result (Option (List SplitShare)) AllocError) → AsksAlike r asked → asked.wanted ≡ wanted → wanted ≤ r.wanted
+pub shares_given : (s : Schema) (r asked : LeafRequest) (wanted : ℕ) (views : List PartView) (answers : List (Result LeafAnswer LeafError)) (result : Result (Option (List SplitShare)) AllocError) → AsksAlike r asked → asked.wanted ≡ wanted → 0 < wanted → wanted ≤ r.wanted
     → AllZip (IsLeafAnswer s asked) views answers → IfOk result (λ o. IfSome o (AllZip (IsShareOf wanted) answers)) → IfOk result (λ o. IfSome o (AllZip (GivesShare s r) views))
-shares_given s r asked wanted views answers (Ok (Some shares)) alike e few leaves are = shares_give s r asked wanted views answers shares alike e few leaves are
-shares_given s r asked wanted views answers (Ok None) alike e few leaves are = tt
-shares_given s r asked wanted views answers (Err refused) alike e few leaves are = tt
+shares_given s r asked wanted views answers (Ok (Some shares)) alike e some few leaves are = shares_give s r asked wanted views answers shares alike e some few leaves are
+shares_given s r asked wanted views answers (Ok None) alike e some few leaves are = tt
+shares_given s r asked wanted views answers (Err refused) alike e some few leaves are = tt
 
 -- the shares of the first answers
 pub record IsSharing (wanted : ℕ) (answers left : List (Result LeafAnswer LeafError)) (shares : List SplitShare) : Type 0 where
@@ -123,7 +91,7 @@ answering_more shares left left' answers answers' g h e more =
 pub answering_done : (shares left : List SplitShare) (answers : List (Result LeafAnswer LeafError)) → IsAnswering shares left answers → left ≡ [] → answers ≡ all_ok (answers_in shares)
 answering_done shares left answers h none = sym (append-nil answers) ∙ (ap (λ (l : List SplitShare). answers ++ all_ok (answers_in l)) (sym none) ∙ h)
 
-share_counted : (s : Schema) (r : LeafRequest) (v : PartView) (g : SplitShare) → GivesShare s r v g → IsCounted r g.answer
+pub share_counted : (s : Schema) (r : LeafRequest) (v : PartView) (g : SplitShare) → GivesShare s r v g → IsCounted r g.answer
 share_counted s r v g gives =
     let counted = gives.is_leaf.counted in
     record { partial = subst (λ (aggs : List NestedAgg). IsNestedPartial aggs g.answer.partial) gives.alike.aggs counted.partial; many = counted.many }
@@ -138,7 +106,7 @@ shares_counted s r views shares answers give e = subst (λ (l : List (Result Lea
     go (v ∷ views) [] give = absurd give
     go (v ∷ views) (g ∷ shares) give = (share_counted s r v g give.0, go views shares give.1)
 
-are_parts : (s : Schema) (r : LeafRequest) (views : List PartView) (shares : List SplitShare) → AllZip (GivesShare s r) views shares → AllByRecursion (IsPart r.wanted) shares
+pub are_parts : (s : Schema) (r : LeafRequest) (views : List PartView) (shares : List SplitShare) → AllZip (GivesShare s r) views shares → AllByRecursion (IsPart r.wanted) shares
 are_parts s r [] [] give = tt
 are_parts s r [] (g ∷ shares) give = absurd give
 are_parts s r (v ∷ views) [] give = absurd give
@@ -165,22 +133,28 @@ joined_are : (lists : List (List Placed)) → joined lists ≡ all_of lists
 joined_are [] = refl
 joined_are (own ∷ lists) = ap (λ (l : List Placed). own ++ l) (joined_are lists)
 
-shares_joined : (r : LeafRequest) (shares : List SplitShare) (answers : List (Result LeafAnswer LeafError)) (all : LeafAnswer) → AllByRecursion (IsPart r.wanted) shares → AreEnough r.order r.wanted shares → answers ≡ all_ok (answers_in shares) → AllJoined r answers all
-    → AreSharesJoined r shares all
-shares_joined r shares answers all parts enough e h =
-    let j = subst (λ (l : List LeafAnswer). AreJoined r l all) (ok_same h.0 (answers_in shares) (sym h.1 ∙ e)) h.2 in
+-- of whatever lists enough shares have the first hits, their answers joined have the first of all
+pub first_hits : (r : LeafRequest) (shares : List SplitShare) (all : LeafAnswer) (lists : List (List Placed)) → AllByRecursion (IsPart r.wanted) shares → AreEnough r.order r.wanted shares → AreJoined r (answers_in shares) all
+    → AllZip (IsFirstOf r.order) shares lists → all.hits ≡ firsts r.wanted r.order (all_of lists)
+first_hits r shares all lists parts enough j are =
     let first = firsts r.wanted r.order in
+    j.hits (hits_in shares) (own_hits r shares lists parts are) ∙ (ap first (sym (joined_are (hits_in shares))) ∙ (sym (firsts_among r.order r.wanted shares lists enough parts are) ∙ ap first (joined_are lists)))
+
+pub join_of_shares : (s : Schema) (r : LeafRequest) (views : List PartView) (shares : List SplitShare) (answers : List (Result LeafAnswer LeafError)) (all : LeafAnswer) → 256 < r.wanted → 2 ≤ length views → AllZip (GivesShare s r) views shares
+    → AreEnough r.order r.wanted shares → answers ≡ all_ok (answers_in shares) → AllJoined r answers all → IsShareJoin s r views all
+join_of_shares s r views shares answers all many several give enough e h =
     record {
-      count = j.count;
-      drawn = j.drawn;
-      hits = λ lists are. j.hits (hits_in shares) (own_hits r shares lists parts are) ∙ (ap first (sym (joined_are (hits_in shares))) ∙ (sym (enough lists parts are) ∙ ap first (joined_are lists)));
-      partial = j.partial;
+      many = many;
+      several = several;
+      shares = shares;
+      are_leaves = give;
+      enough = enough;
+      joined = subst (λ (l : List LeafAnswer). AreJoined r l all) (ok_same h.0 (answers_in shares) (sym h.1 ∙ e)) h.2;
     }
 
-pub join_of_shares : (s : Schema) (r : LeafRequest) (views : List PartView) (shares : List SplitShare) (answers : List (Result LeafAnswer LeafError)) (all : LeafAnswer) → AllZip (GivesShare s r) views shares → AreEnough r.order r.wanted shares
-    → answers ≡ all_ok (answers_in shares) → AllJoined r answers all → IsJoinOf s r views all
-join_of_shares s r views shares answers all give enough e h =
-    record { shares = shares; are_leaves = give; joined = shares_joined r shares answers all (are_parts s r views shares give) enough e h }
+pub or_whole : (s : Schema) (r : LeafRequest) (views : List PartView) (result : Result LeafAnswer JoinFault) → IfOk result (IsWholeJoin s r views) → IfOk result (IsJoinOf s r views)
+or_whole s r views (Ok all) j = inl j
+or_whole s r views (Err e) j = tt
 
 -- ---- over documents
 
@@ -249,12 +223,12 @@ all_stand s r (v ∷ views) (own ∷ lists) (g ∷ shares) give are asked =
       partial = (here.partial, rest.partial);
     }
 
-pub answer_of_join : (s : Schema) (r : LeafRequest) (views : List PartView) (lists : List (List Placed)) (all : LeafAnswer) → IsJoinOf s r views all → AllZip (IsViewOf s) views lists → IsAsked s r → IsAnswerOf s r (all_of lists) all
+pub answer_of_join : (s : Schema) (r : LeafRequest) (views : List PartView) (lists : List (List Placed)) (all : LeafAnswer) → IsShareJoin s r views all → AllZip (IsViewOf s) views lists → IsAsked s r → IsAnswerOf s r (all_of lists) all
 answer_of_join s r views lists all j are asked =
     let stand = all_stand s r views lists j.shares j.are_leaves are asked in
     let same = found_all s r lists in
     record {
       count = j.joined.count ∙ (stand.count ∙ ap (λ (l : List Placed). length l) (sym same));
-      hits = j.joined.hits (founds s r lists) stand.hits ∙ ap (firsts r.wanted r.order) (sym same);
+      hits = first_hits r j.shares all (founds s r lists) (are_parts s r views j.shares j.are_leaves) j.enough j.joined stand.hits ∙ ap (firsts r.wanted r.order) (sym same);
       partial = subst (λ (l : List Placed). NestedStands r.aggs all.partial (docs_of l)) (sym same) (j.joined.partial (founds s r lists) stand.partial);
     }

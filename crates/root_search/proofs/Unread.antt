@@ -1,7 +1,8 @@
 -- Which split is refused where what was fetched of some is read together, and what is said of the answers of all.
-use Rattle.std.proofs.Common.{◌≡◌, ℕ, suc, List, [], ◌∷◌, ◌++◌, map, length, inl, inr, refl, sym, ap, ◌∙◌, subst, Option, Some, Result, Ok, Err, IfOk}
+use Rattle.std.proofs.Common.{◌≡◌, ℕ, suc, List, [], ◌∷◌, ◌++◌, map, length, inl, inr, refl, sym, ap, ◌∙◌, subst, arith, Option, Some, Result, Ok, Err, IfOk}
 use Rattle.std.specs.List.{AllZip}
 use Rattle.std.specs.Prelude.{slice_get}
+use Rattle.std.proofs.lemmas.Slice.Zip.{AllZip-long}
 use Rattle.std.specs.declared.alloc.AllocError.{AllocError}
 use Rattle.doc_value.specs.declared.schema.Schema.{Schema}
 use Rattle.doc_sets.specs.Faults.{IsMemory}
@@ -14,14 +15,14 @@ use Rattle.split_bundle.specs.declared.part_view.PartView.{PartView}
 use Rattle.root_search.specs.Leaves.{GivesShare, IsJoinOf, IsNoLeaf, IsRefusedIn, LeafGives}
 use Rattle.root_search.specs.PartAnswers.{AreAnswered, IsCorruptAt, IsFaultAt, IsRefusedPart, IsSaidOf, IsSaidOver, IsShownOf, IsViewOfPart, PartGives, PartShare, WantsRoom}
 use Rattle.root_search.specs.FetchedSplits.{beside_footer}
+use Rattle.root_search.specs.declared.fetched_splits.FetchedPieces.{FetchedPieces}
+use Rattle.root_search.specs.declared.fetched_splits.FetchedSplit.{FetchedSplit}
+use Rattle.root_search.specs.declared.join_fault.JoinFault.{JoinFault}
+use Rattle.root_search.specs.declared.join_fault.JoinFault.TheVariants as errors
 use Rattle.root_search.specs.declared.leaf_asks.LeafAsk.{LeafAsk}
-use Rattle.root_search.specs.declared.part_answers.PartError.{PartError}
-use Rattle.root_search.specs.declared.part_answers.PartError.TheVariants.{Memory, Corrupt}
+use Rattle.root_search.specs.declared.part_answers.AnswerError.{AnswerError}
+use Rattle.root_search.specs.declared.part_answers.AnswerError.TheVariants.{Memory, Corrupt}
 use Rattle.root_search.specs.declared.shares.SplitShare.{SplitShare}
-use Rattle.root_search.specs.declared.split_parts.FetchedPieces.{FetchedPieces}
-use Rattle.root_search.specs.declared.split_parts.FetchedSplit.{FetchedSplit}
-use Rattle.root_search.specs.declared.splits_error.JoinFault.{JoinFault}
-use Rattle.root_search.specs.declared.splits_error.JoinFault.TheVariants as errors
 use Rattle.root_search.proofs.PartViews.{has_asked}
 
 -- ---- each part answers
@@ -44,7 +45,18 @@ parts_give s r (p ∷ parts) (v ∷ views) [] seen give = absurd give
 parts_give s r (p ∷ parts) (v ∷ views) (g ∷ shares) seen give = (record { view = v; lends = seen.0; gives = give.0 }, parts_give s r parts views shares seen.1 give.1)
 
 pub parts_answered : (s : Schema) (r : LeafRequest) (parts : List FetchedSplit) (views : List PartView) (all : LeafAnswer) → AllZip IsViewOfPart parts views → IsJoinOf s r views all → AreAnswered s r parts all
-parts_answered s r parts views all seen j = record { shares = j.shares; are_leaves = parts_give s r parts views j.shares seen j.are_leaves; joined = j.joined }
+parts_answered s r parts views all seen (inl j) = inl (record { answers = j.answers; are_leaves = over_parts s r parts views j.answers seen j.are_leaves; joined = j.joined })
+parts_answered s r parts views all seen (inr j) =
+    let long = AllZip-long IsViewOfPart parts views seen in
+    let several = j.several in
+    inr (record {
+      many = j.many;
+      several = omega (arith, several, long);
+      shares = j.shares;
+      are_leaves = parts_give s r parts views j.shares seen j.are_leaves;
+      enough = j.enough;
+      joined = j.joined;
+    })
 
 -- ---- the part that is refused
 
@@ -74,7 +86,7 @@ some_is : {k m : FetchedPieces} → ◌≡◌ {A = Option FetchedPieces} (Some k
 some_is e = cc
 
 module _ (s : Schema) (r : LeafRequest) (parts : List FetchedSplit) (splits : List FetchedPieces) (views : List PartView) (same : splits ≡ map beside_footer parts) (are : AllZip IsViewOfPart parts views) where
-  no_part : (place : ℕ) (fault : LeafError) (error : PartError) → (IsMemory fault → ⊥) → IsNoLeaf s r views place fault → IsCorruptAt splits place error → IsRefusedPart s r parts error
+  no_part : (place : ℕ) (fault : LeafError) (error : AnswerError) → (IsMemory fault → ⊥) → IsNoLeaf s r views place fault → IsCorruptAt splits place error → IsRefusedPart s r parts error
   no_part place fault (Memory e) other n h = tt
   no_part place fault (Corrupt number) other n h =
       let v = viewed parts n.front n.view n.rest (subst (λ (l : List PartView). AllZip IsViewOfPart parts l) n.views_are are) in
@@ -95,11 +107,11 @@ module _ (s : Schema) (r : LeafRequest) (parts : List FetchedSplit) (splits : Li
         none = λ documents asked needed. n.none documents asked (has_asked s r v.part documents n.view asked needed v.here.footer v.here.pieces);
       }
 
-  want : (fault : PartError) → WantsRoom fault → IsRefusedPart s r parts fault
+  want : (fault : AnswerError) → WantsRoom fault → IsRefusedPart s r parts fault
   want (Memory e) h = tt
   want (Corrupt number) h = absurd h
 
-  pub part_refused : (error : JoinFault) (fault : PartError) → IsRefusedIn s r views error → IsFaultAt splits error fault → IsRefusedPart s r parts fault
+  pub part_refused : (error : JoinFault) (fault : AnswerError) → IsRefusedIn s r views error → IsFaultAt splits error fault → IsRefusedPart s r parts fault
   part_refused (errors.Memory e) fault n h = want fault h
   part_refused (errors.Missing place at) fault n h = no_part place (leaf.Missing at) fault (λ never. never) n h
   part_refused (errors.Corrupt place section) fault n h = no_part place (leaf.Corrupt section) fault (λ never. never) n h
@@ -112,13 +124,13 @@ said_of_all s ask parts all (Ok said) answered h = inl (all, answered, h)
 said_of_all s ask parts all (Err e) answered h = tt
 
 -- the fault of parts is that of the first split that was not read
-pub said_of_broken : (s : Schema) (ask : LeafAsk) (parts : List FetchedSplit) (fault : PartError) (said : Result Said AllocError) → IsRefusedPart s ask.request parts fault → IfOk said (IsSaidOf fault) → IfOk said (IsSaidOver s ask parts)
+pub said_of_broken : (s : Schema) (ask : LeafAsk) (parts : List FetchedSplit) (fault : AnswerError) (said : Result Said AllocError) → IsRefusedPart s ask.request parts fault → IfOk said (IsSaidOf fault) → IfOk said (IsSaidOver s ask parts)
 said_of_broken s ask parts fault (Err e) refused h = tt
 said_of_broken s ask parts (Memory e) (Ok said) refused h = absurd h
 said_of_broken s ask parts (Corrupt number) (Ok said) refused h = inr (number, h, refused)
 
 -- and there is none where nothing but memory wants
-pub only_room : (P : Said → Type 0) (fault : PartError) (said : Result Said AllocError) → WantsRoom fault → IfOk said (IsSaidOf fault) → IfOk said P
+pub only_room : (P : Said → Type 0) (fault : AnswerError) (said : Result Said AllocError) → WantsRoom fault → IfOk said (IsSaidOf fault) → IfOk said P
 only_room P fault (Err e) room h = tt
 only_room P (Memory e) (Ok said) room h = absurd h
 only_room P (Corrupt number) (Ok said) room h = absurd room

@@ -21,10 +21,10 @@ use Rattle.split_bundle.specs.Views.{held}
 use Rattle.split_bundle.specs.declared.footer.Footer.{Footer}
 use Rattle.split_bundle.specs.declared.split_error.SplitError.{SplitError}
 use Rattle.split_bundle.specs.declared.split_error.SplitError.TheVariants as splits
+use Rattle.root_search.specs.declared.fetched_splits.FetchedSplit.{FetchedSplit}
+use Rattle.root_search.specs.declared.fetched_splits.KeptPiece.{KeptPiece}
 use Rattle.root_search.specs.declared.fetching.FetchError.{FetchError}
 use Rattle.root_search.specs.declared.fetching.FetchError.TheVariants.{Memory, World, Corrupt}
-use Rattle.root_search.specs.declared.split_parts.KeptPiece.{KeptPiece}
-use Rattle.root_search.specs.declared.split_parts.FetchedSplit.{FetchedSplit}
 
 -- ---- calls
 

@@ -14,9 +14,9 @@ use Rattle.split_bundle.specs.declared.footer.Footer.{Footer}
 use Rattle.split_bundle.specs.declared.part_view.PartView.{PartView}
 use Rattle.split_bundle.specs.declared.pieces.FilePiece.{FilePiece}
 use Rattle.split_bundle.specs.declared.placed.Placed.{Placed}
-use Rattle.root_search.specs.declared.split_parts.KeptPiece.{KeptPiece}
-use Rattle.root_search.specs.declared.split_parts.FetchedPieces.{FetchedPieces}
-use Rattle.root_search.specs.declared.split_parts.FetchedSplit.{FetchedSplit}
+use Rattle.root_search.specs.declared.fetched_splits.FetchedPieces.{FetchedPieces}
+use Rattle.root_search.specs.declared.fetched_splits.FetchedSplit.{FetchedSplit}
+use Rattle.root_search.specs.declared.fetched_splits.KeptPiece.{KeptPiece}
 
 -- so many bytes of a file from a place on, as far as it has them
 abbrev pub piece_at : List ℕ → FileRange → KeptPiece

@@ -23,11 +23,11 @@ use Rattle.root_search.specs.Goes.{GoesBy}
 use Rattle.root_search.specs.Recorded.{AreRecorded}
 use Rattle.root_search.specs.FetchedSplits.{HasNeeded, HoldsBlocks, IsFooterIn, over, pieces_at}
 use Rattle.root_search.specs.Steps.{Passage, fetched_at, ArePassed}
+use Rattle.root_search.specs.declared.fetched_splits.FetchedSplit.{FetchedSplit}
+use Rattle.root_search.specs.declared.fetched_splits.KeptPiece.{KeptPiece}
 use Rattle.root_search.specs.declared.fetching.FetchError.{FetchError}
 use Rattle.root_search.specs.declared.fetching.FetchError.TheVariants.{Memory, World, Corrupt}
 use Rattle.root_search.specs.declared.fetching.ShownStarts.{ShownStarts}
-use Rattle.root_search.specs.declared.split_parts.KeptPiece.{KeptPiece}
-use Rattle.root_search.specs.declared.split_parts.FetchedSplit.{FetchedSplit}
 
 -- as long as the moment is below this one the file of the planned row at a place stands with these bytes, of which the row knows
 -- how many they are

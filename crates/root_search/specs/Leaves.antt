@@ -1,5 +1,5 @@
 -- The answers of many splits.
-use Rattle.std.specs.Prelude.{◌≡◌, ◌≢◌, ℕ, ◌^◌, ◌≤◌, true, List, ◌∷◌, ◌++◌, flat_map, length, map, sum_by, slice_get, Some, None, Result, Ok, Err, IfOk, IsPermutation, MatchResult}
+use Rattle.std.specs.Prelude.{◌≡◌, ◌≢◌, ◌⊎◌, ℕ, ◌^◌, ◌<◌, ◌≤◌, true, List, ◌∷◌, ◌++◌, flat_map, length, map, sum_by, slice_get, Some, None, Result, Ok, Err, IfOk, IsPermutation, MatchResult}
 use Rattle.std.specs.List.{AllZip}
 use Rattle.doc_value.specs.declared.schema.Schema.{Schema}
 use Rattle.query_ast.specs.Sought.{view}
@@ -20,10 +20,10 @@ use Rattle.leaf_search.specs.Answers.{AsksLeaf, IsAnswerOf, IsAsked}
 use Rattle.leaf_search.specs.Counts.{only_counts, read_lookups}
 use Rattle.leaf_search.specs.declared.request.LeafAnswer.{LeafAnswer}
 use Rattle.leaf_search.specs.declared.request.LeafRequest.{LeafRequest}
-use Rattle.root_search.specs.Shares.{IsFirstOf}
+use Rattle.root_search.specs.Shares.{AreEnough}
+use Rattle.root_search.specs.declared.join_fault.JoinFault.{JoinFault}
+use Rattle.root_search.specs.declared.join_fault.JoinFault.TheVariants.{Corrupt, Memory, Missing, TooMany}
 use Rattle.root_search.specs.declared.shares.SplitShare.{SplitShare}
-use Rattle.root_search.specs.declared.splits_error.JoinFault.{JoinFault}
-use Rattle.root_search.specs.declared.splits_error.JoinFault.TheVariants.{Corrupt, Memory, Missing, TooMany}
 
 -- the documents of some lists, one list after the other
 abbrev pub all_of : List (List Placed) → List Placed
@@ -148,6 +148,14 @@ AllJoined r answers all = (given : List LeafAnswer) × (answers ≡ all_ok given
 abbrev pub LeafGives : Schema → LeafRequest → PartView → LeafAnswer → Type 0
 LeafGives s r view answer = IsLeafAnswer s r view (Ok answer)
 
+-- The leaf of each split answered the request itself, and what they answered is joined.
+pub record IsWholeJoin (s : Schema) (r : LeafRequest) (views : List PartView) (all : LeafAnswer) : Type 0 where
+  pub answers : List LeafAnswer
+  pub are_leaves : AllZip (LeafGives s r) views answers
+  pub joined : AreJoined r answers all
+
+-- ---- where each split is asked for a share of the hits
+
 -- a request asks what another one does, but for how many hits are wanted
 pub record AsksAlike (r other : LeafRequest) : Type 0 where
   pub query : view other.query ≡ view r.query
@@ -155,11 +163,12 @@ pub record AsksAlike (r other : LeafRequest) : Type 0 where
   pub order : other.order ≡ r.order
   pub aggs : other.aggs ≡ r.aggs
 
--- the leaf answers this over a view to the same request, where so many hits are wanted: at most as many as are wanted of all splits
+-- the leaf answers this over a view to the same request, where so many hits are wanted: some, and at most as many as are wanted of all splits
 pub record GivesShare (s : Schema) (r : LeafRequest) (v : PartView) (share : SplitShare) : Type 0 where
   pub asked : LeafRequest
   pub alike : AsksAlike r asked
   pub wanted : asked.wanted ≡ share.wanted
+  pub some : 0 < share.wanted
   pub few : share.wanted ≤ r.wanted
   pub is_leaf : LeafGives s asked v share.answer
 
@@ -171,19 +180,25 @@ IsShareOf wanted answer share = (answer ≡ Ok share.answer) × (share.wanted �
 abbrev pub answers_in : List SplitShare → List LeafAnswer
 answers_in shares = map (λ share. share.answer) shares
 
--- Shares are joined, as answers are (`AreJoined`): the hits are the first so many of all documents as are wanted, wherever those of each share are
--- the first of some.
-pub record AreSharesJoined (r : LeafRequest) (shares : List SplitShare) (all : LeafAnswer) : Type 0 where
-  pub count : all.count ≡ sum_by (λ a. a.count) (answers_in shares)
-  pub drawn : AreSomeOf all.hits (all_hits (answers_in shares))
-  pub hits : (lists : List (List Placed)) → AllZip (IsFirstOf r.order) shares lists → all.hits ≡ firsts r.wanted r.order (all_of lists)
-  pub partial : (lists : List (List Placed)) → AllZip (λ a own. NestedStands r.aggs a.partial (docs_of own)) (answers_in shares) lists → NestedStands r.aggs all.partial (docs_of (all_of lists))
-
--- What splits answer is joined: the leaf of each of them answered, with a share of the hits.
-pub record IsJoinOf (s : Schema) (r : LeafRequest) (views : List PartView) (all : LeafAnswer) : Type 0 where
+-- Of more than 256 hits of two splits or more, the leaf of each answered with a share. The shares are enough, so that the first hits of all are among
+-- theirs, and their answers are joined.
+pub record IsShareJoin (s : Schema) (r : LeafRequest) (views : List PartView) (all : LeafAnswer) : Type 0 where
+  pub many : 256 < r.wanted
+  pub several : 2 ≤ length views
   pub shares : List SplitShare
   pub are_leaves : AllZip (GivesShare s r) views shares
-  pub joined : AreSharesJoined r shares all
+  pub enough : AreEnough r.order r.wanted shares
+  pub joined : AreJoined r (answers_in shares) all
+
+-- What splits answer is joined. For at most 256 hits, and over one split, it is what each answers to the request itself.
+abbrev pub IsJoinOf : Schema → LeafRequest → List PartView → LeafAnswer → Type 0
+IsJoinOf s r views all = IsWholeJoin s r views all ⊎ IsShareJoin s r views all
+
+-- the view is of no split, of whatever documents
+abbrev pub IsOfNoSplit : Schema → PartView → Type 0
+IsOfNoSplit s v = (documents : List Placed) (parts : Parts) → IsPartOf v s documents parts → ⊥
+
+-- ---- which split is refused
 
 -- The leaf of the view at a place is at fault, and there is none before it. This view has not all that the request asks for of a split, of
 -- whatever documents.

@@ -3,6 +3,7 @@ use Rattle.std.specs.Prelude.{◌≡◌, ◌⊎◌, ℕ, List, [], Contains, Res
 use Rattle.std.specs.declared.alloc.AllocError.{AllocError}
 use Rattle.split_bundle.specs.declared.footer.Footer.{Footer}
 use Rattle.root_search.specs.Footers.{entries}
+use Rattle.root_search.specs.declared.fetched_splits.FetchedSplit.{FetchedSplit}
 use Rattle.root_search.specs.declared.footers.Footers.{Footers}
 use Rattle.root_search.specs.declared.outcome.SearchStep.{SearchStep}
 use Rattle.root_search.specs.declared.outcome.SearchStep.TheVariants.{Fetched, Idle, Planned, Replied}
@@ -11,7 +12,6 @@ use Rattle.root_search.specs.declared.searcher.Busy.{Busy}
 use Rattle.root_search.specs.declared.searcher.Request.{Request}
 use Rattle.root_search.specs.declared.searcher.Request.TheVariants as requests
 use Rattle.root_search.specs.declared.searcher.Searcher.{Searcher}
-use Rattle.root_search.specs.declared.split_parts.FetchedSplit.{FetchedSplit}
 
 -- without a request and footers
 pub record Restarts (old new : Searcher) : Type 0 where

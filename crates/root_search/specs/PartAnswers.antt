@@ -1,5 +1,5 @@
 -- What is found in splits together, and which of them is refused.
-use Rattle.std.specs.Prelude.{◌≡◌, ◌⊎◌, ℕ, List, ◌∷◌, ◌++◌, IsPermutation, Some, Result, Ok, Err, drop, slice_get, take}
+use Rattle.std.specs.Prelude.{◌≡◌, ◌⊎◌, ℕ, ◌<◌, ◌≤◌, List, ◌∷◌, ◌++◌, length, IsPermutation, Some, Result, Ok, Err, drop, slice_get, take}
 use Rattle.std.specs.List.{AllZip}
 use Rattle.doc_value.specs.declared.doc.DocField.{DocField}
 use Rattle.doc_value.specs.declared.schema.Schema.{Schema}
@@ -23,17 +23,18 @@ use Rattle.search_api.specs.declared.reply.Said.{Said}
 use Rattle.search_api.specs.declared.reply.Said.TheVariants.{Found, Deleted, Refused}
 use Rattle.search_api.specs.declared.unanswered.Unanswered.TheVariants as reasons
 use Rattle.root_search.specs.Answer.{printed}
-use Rattle.root_search.specs.Leaves.{AreSharesJoined, GivesShare, IsLeafAnswer, all_of}
+use Rattle.root_search.specs.Leaves.{AreJoined, GivesShare, IsLeafAnswer, all_of, answers_in}
 use Rattle.root_search.specs.Places.{OneAtEach}
+use Rattle.root_search.specs.Shares.{AreEnough}
 use Rattle.root_search.specs.FetchedSplits.{HasNeeded, IsLentOf}
+use Rattle.root_search.specs.declared.fetched_splits.FetchedPieces.{FetchedPieces}
+use Rattle.root_search.specs.declared.fetched_splits.FetchedSplit.{FetchedSplit}
+use Rattle.root_search.specs.declared.join_fault.JoinFault.{JoinFault}
+use Rattle.root_search.specs.declared.join_fault.JoinFault.TheVariants as errors
 use Rattle.root_search.specs.declared.leaf_asks.LeafAsk.{LeafAsk}
-use Rattle.root_search.specs.declared.part_answers.PartError.{PartError}
-use Rattle.root_search.specs.declared.part_answers.PartError.TheVariants.{Memory, Corrupt}
+use Rattle.root_search.specs.declared.part_answers.AnswerError.{AnswerError}
+use Rattle.root_search.specs.declared.part_answers.AnswerError.TheVariants.{Memory, Corrupt}
 use Rattle.root_search.specs.declared.shares.SplitShare.{SplitShare}
-use Rattle.root_search.specs.declared.split_parts.FetchedPieces.{FetchedPieces}
-use Rattle.root_search.specs.declared.split_parts.FetchedSplit.{FetchedSplit}
-use Rattle.root_search.specs.declared.splits_error.JoinFault.{JoinFault}
-use Rattle.root_search.specs.declared.splits_error.JoinFault.TheVariants as errors
 
 -- What is found in the lists together is what is found in all of some documents, each at a place of its own, and these are
 -- those in another order.
@@ -44,7 +45,7 @@ pub record AreFound (s : Schema) (r : LeafRequest) (lists : List (List Placed)) 
   pub moved : IsPermutation all documents
 
 -- nothing but want of memory
-abbrev pub WantsRoom : PartError → Type 0
+abbrev pub WantsRoom : AnswerError → Type 0
 WantsRoom (Memory e) = Unit {0}
 WantsRoom (Corrupt number) = ⊥
 
@@ -70,11 +71,24 @@ pub record PartShare (s : Schema) (r : LeafRequest) (part : FetchedSplit) (share
   pub lends : IsViewOfPart part view
   pub gives : GivesShare s r view share
 
--- The leaf over each part answered, and their answers are joined.
-pub record AreAnswered (s : Schema) (r : LeafRequest) (parts : List FetchedSplit) (all : LeafAnswer) : Type 0 where
+-- The leaf over each part answered the request itself, and their answers are joined.
+pub record AreAnsweredWhole (s : Schema) (r : LeafRequest) (parts : List FetchedSplit) (all : LeafAnswer) : Type 0 where
+  pub answers : List LeafAnswer
+  pub are_leaves : AllZip (PartGives s r) parts answers
+  pub joined : AreJoined r answers all
+
+-- Of more than 256 hits of two parts or more, the leaf over each answered with a share. The shares are enough, and their answers are joined.
+pub record AreAnsweredInShares (s : Schema) (r : LeafRequest) (parts : List FetchedSplit) (all : LeafAnswer) : Type 0 where
+  pub many : 256 < r.wanted
+  pub several : 2 ≤ length parts
   pub shares : List SplitShare
   pub are_leaves : AllZip (PartShare s r) parts shares
-  pub joined : AreSharesJoined r shares all
+  pub enough : AreEnough r.order r.wanted shares
+  pub joined : AreJoined r (answers_in shares) all
+
+-- What the leaves over all parts answered is joined. For at most 256 hits, and over one part, it is what each answered to the request itself.
+abbrev pub AreAnswered : Schema → LeafRequest → List FetchedSplit → LeafAnswer → Type 0
+AreAnswered s r parts all = AreAnsweredWhole s r parts all ⊎ AreAnsweredInShares s r parts all
 
 -- The leaf over what was kept of the split with a number met a fault that is not want of memory, and none before it did. What was kept is not
 -- what the request needs of a split, of whatever documents.
@@ -91,23 +105,23 @@ pub record IsBroken (s : Schema) (r : LeafRequest) (parts : List FetchedSplit) (
   pub other : IsMemory fault → ⊥
   pub none : (documents : List Placed) → IsAsked s r → HasNeeded s r part documents → ⊥
 
-abbrev pub IsRefusedPart : Schema → LeafRequest → List FetchedSplit → PartError → Type 0
+abbrev pub IsRefusedPart : Schema → LeafRequest → List FetchedSplit → AnswerError → Type 0
 IsRefusedPart s r parts (Memory e) = Unit {0}
 IsRefusedPart s r parts (Corrupt number) = IsBroken s r parts number
 
 -- the split at a place is the one that is refused, if one is
-abbrev pub IsCorruptAt : List FetchedPieces → ℕ → PartError → Type 0
+abbrev pub IsCorruptAt : List FetchedPieces → ℕ → AnswerError → Type 0
 IsCorruptAt splits place (Memory e) = Unit {0}
 IsCorruptAt splits place (Corrupt number) = (split : FetchedPieces) × (slice_get splits place ≡ Some split) × (split.number ≡ number)
 
-abbrev pub IsFaultAt : List FetchedPieces → JoinFault → PartError → Type 0
+abbrev pub IsFaultAt : List FetchedPieces → JoinFault → AnswerError → Type 0
 IsFaultAt splits (errors.Memory e) fault = WantsRoom fault
 IsFaultAt splits (errors.Missing place at) fault = IsCorruptAt splits place fault
 IsFaultAt splits (errors.Corrupt place section) fault = IsCorruptAt splits place fault
 IsFaultAt splits errors.TooMany fault = WantsRoom fault
 
 -- a corrupt split is replied as such, with its key
-abbrev pub IsSaidOf : PartError → Said → Type 0
+abbrev pub IsSaidOf : AnswerError → Said → Type 0
 IsSaidOf (Memory e) said = ⊥
 IsSaidOf (Corrupt number) said = said ≡ Refused (refusals.Corrupt (split_key number))
 

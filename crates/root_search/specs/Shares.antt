@@ -1,6 +1,6 @@
 -- When what splits gave of their hits is enough.
-use Rattle.std.specs.Prelude.{◌≡◌, ℕ, ◌≤◌, List, map, Option}
-use Rattle.std.specs.List.{AllByRecursion, AllZip}
+use Rattle.std.specs.Prelude.{◌≡◌, ◌⊎◌, ℕ, ◌≤◌, not, List, length, map, Option}
+use Rattle.std.specs.List.{AllByRecursion, filter}
 use Rattle.split_bundle.specs.declared.placed.Placed.{Placed}
 use Rattle.doc_tallies.specs.Orders.{comes_before, firsts}
 use Rattle.doc_tallies.specs.Shares.{IsShare, joined}
@@ -27,7 +27,9 @@ IsWhole order wanted share = (own : List Placed) → IsPart wanted share → IsF
 abbrev pub IsUsedUp : Option HitOrder → ℕ → Placed → SplitShare → Type 0
 IsUsedUp order wanted z share = (own : List Placed) → IsPart wanted share → IsFirstOf order share own → IsShare (comes_before order) wanted z own share.answer.hits
 
--- of whatever lists they have the first hits, the first of all are among theirs
+-- Nothing that a split did not give may be among the first hits: each gave as many as are wanted of all, as far as it has so many; or so many hits do
+-- not stand behind one, and all that the splits did not give stands behind it.
 abbrev pub AreEnough : Option HitOrder → ℕ → List SplitShare → Type 0
 AreEnough order wanted shares =
-    (lists : List (List Placed)) → AllByRecursion (IsPart wanted) shares → AllZip (IsFirstOf order) shares lists → firsts wanted order (joined lists) ≡ firsts wanted order (joined (hits_in shares))
+    AllByRecursion (IsWhole order wanted) shares
+    ⊎ ((z : Placed) × (wanted ≤ length (filter (λ y. not (comes_before order z y)) (joined (hits_in shares)))) × AllByRecursion (IsUsedUp order wanted z) shares)

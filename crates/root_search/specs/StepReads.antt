@@ -30,6 +30,7 @@ use Rattle.root_search.specs.Footers.{entries}
 use Rattle.root_search.specs.PartAnswers.{IsSaidOver}
 use Rattle.root_search.specs.FetchedSplits.{IsKnown}
 use Rattle.root_search.specs.Steps.{state_refusal}
+use Rattle.root_search.specs.declared.fetched_splits.FetchedSplit.{FetchedSplit}
 use Rattle.root_search.specs.declared.fetching.FetchError.{FetchError}
 use Rattle.root_search.specs.declared.fetching.FetchError.TheVariants.{Memory, World, Corrupt}
 use Rattle.root_search.specs.declared.footers.Footers.{Footers}
@@ -39,7 +40,6 @@ use Rattle.root_search.specs.declared.planned.Planned.{Planned as GivenPlan}
 use Rattle.root_search.specs.declared.searcher.Request.{Request as GivenRequest}
 use Rattle.root_search.specs.declared.searcher.Request.TheVariants as requests
 use Rattle.root_search.specs.declared.searcher.Searcher.{Searcher}
-use Rattle.root_search.specs.declared.split_parts.FetchedSplit.{FetchedSplit}
 
 -- ---- refusals
 

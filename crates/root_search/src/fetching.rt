@@ -23,7 +23,7 @@ ghost use Rattle.root_search.specs.FetchCalls.{AreKeptBehind, IsFaultWhere, IsFo
 ghost use Rattle.root_search.specs.Fetching.{AreBlocksFetched, AreListsFetched, AreRangesFetched, AreShownFetched, AreStartsNamed, FetchesAs, IsFileAt, IsFooterFetched, IsLooked, IsPartFetched, IsPieceFetched, IsWant, WantsRoom, needed_calls, part_calls};
 ghost use Rattle.root_search.specs.FetchedSplits.{HoldsBlocks, HoldsListed, HoldsStarts, IsFile, IsFooterIn, IsKnown, StartsFooter, over};
 
-use crate::split_parts::{FetchedSplit, KeptPiece, KeptPieces, lent_pieces};
+use crate::fetched_splits::{FetchedSplit, KeptPiece, KeptPieces, lent_pieces};
 use doc_sets::LeafError;
 use doc_value::Schema;
 use index_world::{Gate, Plan, WorldError};

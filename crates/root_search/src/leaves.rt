@@ -7,11 +7,11 @@ ghost use Rattle.agg_nested.specs.Checking.{HaveSteps};
 ghost use Rattle.split_bundle.specs.declared.placed.Placed.{Placed};
 ghost use Rattle.leaf_search.specs.Answers.{IsAnswerOf, IsAsked};
 ghost use Rattle.root_search.specs.Shares.{AreEnough};
-ghost use Rattle.root_search.specs.Leaves.{AllJoined, AreJoined, AsksAlike, GivesShare, HasAsked, HasCauseIn, IsCounted, IsFaultIn, IsFull, IsJoinOf, IsLeafAnswer, IsRefusedIn, IsShareOf, IsViewOf, IsWholeViewOf, WantsMemory, all_of, all_ok, answers_in, placed_fault};
+ghost use Rattle.root_search.specs.Leaves.{AllJoined, AreJoined, AsksAlike, GivesShare, HasAsked, HasCauseIn, IsCounted, IsFaultIn, IsFull, IsJoinOf, IsLeafAnswer, IsRefusedIn, IsShareJoin, IsShareOf, IsViewOf, IsWholeJoin, IsWholeViewOf, WantsMemory, all_of, all_ok, answers_in, placed_fault};
 
+use crate::join_fault::JoinFault;
 use crate::joins::merged;
 use crate::shares::{SplitShare, SplitShares, open_share, share_of};
-use crate::splits_error::JoinFault;
 use agg_nested::vacant_nested;
 use doc_value::{Replica, Schema};
 use leaf_search::{LeafAnswer, LeafError, LeafRequest, leaf};
@@ -207,7 +207,7 @@ fn search_whole<Rt: Threads + Sync>(
     ensures counted { IfOk result (IsCounted request.now) }
     // Over any bytes: there is an answer only where each split has one, and it is these, joined; and a split is refused only where its view is none of
     // a split, the first.
-    ensures each { IfOk result (IsJoinOf schema.now request.now views.now) }
+    ensures each { IfOk result (IsWholeJoin schema.now request.now views.now) }
     ensures refused { IfErr result (IsRefusedIn schema.now request.now views.now) }
 {
     let answers = answers_of(rt, alloc, manner, schema, request, views)?;
@@ -258,6 +258,7 @@ fn ask_again(
 ) -> bool
     requires fields { length schema.now.fields ≤ 256 }
     requires intervals { HaveSteps request.now.aggs }
+    requires some { 0 < request.now.wanted }
     ensures { AllZip (GivesShare schema.now request.now) views.now shares.old → AllZip (GivesShare schema.now request.now) views.now shares.new }
 {
     let wanted = request.wanted;
@@ -287,6 +288,7 @@ fn enough_shares(
 ) -> Result<Option<SplitShares>, AllocError>
     requires fields { length schema.now.fields ≤ 256 }
     requires intervals { HaveSteps request.now.aggs }
+    requires some { 0 < request.now.wanted }
     requires shares { AllZip (GivesShare schema.now request.now) views.now shares }
     ensures give { IfOk result (λ o. IfSome o (AllZip (GivesShare schema.now request.now) views.now)) }
     ensures enough { IfOk result (λ o. IfSome o (AreEnough request.now.order request.now.wanted)) }
@@ -332,6 +334,7 @@ fn first_shares<Rt: Threads + Sync>(
 ) -> Result<Option<SplitShares>, AllocError>
     requires fields { length schema.now.fields ≤ 256 }
     requires intervals { HaveSteps request.now.aggs }
+    requires some { 0 < wanted }
     requires part { wanted ≤ request.now.wanted }
     ensures { IfOk result (λ o. IfSome o (AllZip (GivesShare schema.now request.now) views.now)) }
 {
@@ -354,9 +357,12 @@ fn search_shares<Rt: Threads + Sync>(
 ) -> Result<Option<LeafAnswer>, AllocError>
     requires fields { length schema.now.fields ≤ 256 }
     requires intervals { HaveSteps request.now.aggs }
+    requires some { 0 < share }
     requires part { share ≤ request.now.wanted }
+    requires many { 256 < request.now.wanted }
+    requires several { 2 ≤ length views.now }
     ensures counted { IfOk result (λ o. IfSome o (IsCounted request.now)) }
-    ensures each { IfOk result (λ o. IfSome o (IsJoinOf schema.now request.now views.now)) }
+    ensures each { IfOk result (λ o. IfSome o (IsShareJoin schema.now request.now views.now)) }
 {
     let Some(shares) = first_shares(rt, alloc, manner, schema, request, views, share)? else {
         return Ok(None);
@@ -393,8 +399,8 @@ pub(crate) fn search_all<Rt: Threads + Sync>(
         → MatchResult result (IsAnswerOf schema.now request.now (all_of lists)) WantsMemory }
     // Over any bytes.
     ensures counted { IfOk result (IsCounted request.now) }
-    // Over any bytes: there is an answer only where each split has one, and it is these, joined; and a split is refused only where its view is none of
-    // a split, the first.
+    // Over any bytes: there is an answer only where each split has one, to the request itself or, of more than 256 hits of two splits or more, with a
+    // share of them, and it is these, joined; and a split is refused only where its view is none of a split, the first.
     ensures each { IfOk result (IsJoinOf schema.now request.now views.now) }
     ensures refused { IfErr result (IsRefusedIn schema.now request.now views.now) }
 {

@@ -14,10 +14,10 @@ ghost use Rattle.root_search.specs.FetchedSplits.{HasNeeded};
 ghost use Rattle.root_search.specs.declared.leaves.Threading.TheVariants.{InTurn};
 
 use crate::answers::shown;
+use crate::fetched_splits::{FetchedPieces, FetchedSplits, split_footers, views_of};
+use crate::join_fault::JoinFault;
 use crate::leaf_asks::LeafAsk;
 use crate::leaves::{Threading, search_all};
-use crate::split_parts::{FetchedPieces, FetchedSplits, split_footers, views_of};
-use crate::splits_error::JoinFault;
 use doc_value::Schema;
 use leaf_search::LeafAnswer;
 use meta_journal::split_key;
@@ -28,46 +28,46 @@ use std::thread::Threads;
 // Threads take some tenths of a millisecond to start, in which about so many bytes of splits are read.
 const WORTH_THREADS: usize = 256 * 1024;
 
-// Why parts of splits give no answer.
+// Why there is no answer over fetched splits.
 #[derive(Drop)]
-enum PartError {
+enum AnswerError {
     Memory(AllocError),
     // The bytes of the split with this number are not of its form.
     Corrupt { number: u64 },
 }
 
-impl From<AllocError> for PartError {
+impl From<AllocError> for AnswerError {
     ghost use Rattle.std.specs.Prelude.{◌≡◌};
-    ghost use Rattle.root_search.specs.declared.part_answers.PartError.TheVariants.{Memory};
+    ghost use Rattle.root_search.specs.declared.part_answers.AnswerError.TheVariants.{Memory};
 
     ghost from_gives = { λ a e. e ≡ Memory a };
 
     fn from(refused: AllocError) -> Self {
-        PartError::Memory(refused)
+        AnswerError::Memory(refused)
     }
 }
 
 // The fault of the split at a place. So many documents that they are not counted are more than a memory has.
-fn fault_of(splits: &[FetchedPieces], error: JoinFault) -> PartError
+fn fault_of(splits: &[FetchedPieces], error: JoinFault) -> AnswerError
     ensures room { WantsMemory error → WantsRoom result }
     ensures place { IsFaultAt splits.now error result }
 {
     match error {
-        JoinFault::Memory(refused) => PartError::Memory(refused),
+        JoinFault::Memory(refused) => AnswerError::Memory(refused),
         JoinFault::Missing { place, .. } => corrupt_at(splits, place),
         JoinFault::Corrupt { place, .. } => corrupt_at(splits, place),
-        JoinFault::TooMany => PartError::Memory(AllocError),
+        JoinFault::TooMany => AnswerError::Memory(AllocError),
     }
 }
 
-fn corrupt_at(splits: &[FetchedPieces], place: usize) -> PartError
+fn corrupt_at(splits: &[FetchedPieces], place: usize) -> AnswerError
     ensures { IsCorruptAt splits.now place result }
 {
     match splits.get(place) {
-        Some(split) => PartError::Corrupt {
+        Some(split) => AnswerError::Corrupt {
             number: split.number,
         },
-        None => PartError::Memory(AllocError),
+        None => AnswerError::Memory(AllocError),
     }
 }
 
@@ -101,7 +101,7 @@ fn leaf_answer<Rt: Threads + Sync>(
     schema: &Schema,
     ask: &LeafAsk,
     parts: FetchedSplits,
-) -> Result<LeafAnswer, PartError>
+) -> Result<LeafAnswer, AnswerError>
     requires fields { length schema.now.fields ≤ 256 }
     requires intervals { HaveSteps ask.now.request.aggs }
     ensures only { (lists : List (List Placed)) → AllZip (HasNeeded schema.now ask.now.request) parts lists → length (all_of lists) < 2 ^ 62 → IsAsked schema.now ask.now.request
@@ -122,12 +122,12 @@ fn leaf_answer<Rt: Threads + Sync>(
 }
 
 // What is answered where parts give no answer.
-fn said_of(fault: PartError) -> Result<Said, AllocError>
+fn said_of(fault: AnswerError) -> Result<Said, AllocError>
     ensures { IfOk result (IsSaidOf fault) }
 {
     match fault {
-        PartError::Memory(refused) => Err(refused),
-        PartError::Corrupt { number } => Ok(Said::Refused(Refusal::Corrupt {
+        AnswerError::Memory(refused) => Err(refused),
+        AnswerError::Corrupt { number } => Ok(Said::Refused(Refusal::Corrupt {
             key: split_key(number),
         })),
     }

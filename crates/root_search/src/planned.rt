@@ -3,8 +3,8 @@
 ghost use Rattle.std.specs.Prelude.{◌≡◌, true};
 ghost use Rattle.root_search.specs.Intervals.{have_steps};
 
+use crate::fetched_splits::FetchedSplits;
 use crate::leaf_asks::LeafAsk;
-use crate::split_parts::FetchedSplits;
 use index_world::Plan;
 
 /// A planned search: what it asks of each split, and what was fetched of the first rows.

@@ -24,13 +24,13 @@ ghost use Rattle.root_search.specs.Steps as steps;
 ghost use Rattle.root_search.specs.Steps.{opened, without_request, reply_with, state_refusal, trouble_replied, refused_over, unmade_replied};
 
 use crate::asking::read_request;
+use crate::fetched_splits::{FetchedSplit, FetchedSplits};
 use crate::fetching::{FetchError, fetch_part};
 use crate::footers::Footers;
 use crate::outcome::SearchStep;
 use crate::part_answers::answer_over;
 use crate::planned::Planned;
 use crate::reads::{ReadRequest, ReadSearch};
-use crate::split_parts::{FetchedSplit, FetchedSplits};
 use byte_fields::{Client, Text};
 use index_world::{DeleteAsk, Gate, WorldError};
 use meta_journal::split_key;

@@ -1,6 +1,6 @@
 //! Shares of the hits that are wanted, which splits give first, and whether these are enough.
 
-ghost use Rattle.std.specs.Prelude.{◌≡◌, ◌-◌, ◌≤◌, true, false, not, count_by, length, IfNone, IfOk, IfSome, Option};
+ghost use Rattle.std.specs.Prelude.{◌≡◌, ◌-◌, ◌<◌, ◌≤◌, true, false, not, count_by, length, IfNone, IfOk, IfSome, Option};
 ghost use Rattle.std.specs.Bool.{OnTrue};
 ghost use Rattle.std.specs.List.{AllByRecursion, filter};
 ghost use Rattle.doc_tallies.specs.declared.hit_order.HitOrder.{HitOrder as Order};
@@ -35,9 +35,12 @@ const SPARE: usize = 64;
 const STRIDE: usize = 16;
 
 /// How many hits are wanted of each of so many splits first: its part of those that are wanted of all, a quarter more, and some. There are none where
-/// that would be all of them, or few.
+/// that would be all of them, where few are wanted, and of one split.
 pub(crate) fn share_of(wanted: usize, splits: usize) -> Option<usize>
-    ensures { IfSome result (λ share. share ≤ wanted) }
+    ensures some { IfSome result (λ share. 0 < share) }
+    ensures part { IfSome result (λ share. share ≤ wanted) }
+    ensures many { IfSome result (λ share. 256 < wanted) }
+    ensures several { IfSome result (λ share. 2 ≤ splits) }
 {
     if wanted <= FEW || splits < 2 {
         return None;

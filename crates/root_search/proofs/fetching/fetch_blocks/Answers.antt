@@ -8,7 +8,7 @@ use Rattle.root_search.proofs.Fetches.{all_done, all_short, handed_on, made_of, 
 use Rattle.root_search.proofs.Needed.{blocks_of, config_same, first_kept, many_kept}
 use Rattle.root_search.proofs.Schemas.{few_fields}
 use Rattle.root_search.specs.FetchCalls.{AreKeptBehind, NeverRefused, kept_of}
-use Rattle.root_search.specs.declared.split_parts.KeptPiece.{KeptPiece}
+use Rattle.root_search.specs.declared.fetched_splits.KeptPiece.{KeptPiece}
 use Rattle.root_search.proofs.CallsMade.{all_of, none_called, read_ill, read_well, then_lost}
 use Rattle.root_search.proofs.fetching.fetch_blocks.Goals as goal
 

@@ -9,7 +9,7 @@ use Rattle.split_bundle.specs.Files.{file_bytes}
 use Rattle.split_bundle.specs.Splits.{IsSplitOf}
 use Rattle.root_search.specs.Fetching.{AreListsFetched, AreRangesFetched}
 use Rattle.root_search.specs.FetchedSplits.{HoldsBlocks, over, pieces_at}
-use Rattle.root_search.specs.declared.split_parts.KeptPiece.{KeptPiece}
+use Rattle.root_search.specs.declared.fetched_splits.KeptPiece.{KeptPiece}
 use Rattle.root_search.proofs.Fetches.{all_done, all_short, handed_on, made_of, none_made}
 use Rattle.root_search.proofs.Needed.{config_same}
 use Rattle.root_search.proofs.Schemas.{few_fields}

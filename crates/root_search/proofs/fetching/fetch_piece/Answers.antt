@@ -1,7 +1,7 @@
 use Rattle.index_world.specs.Gate.{grace_of}
 use Rattle.root_search.proofs.Fetches.{one_failed, one_fetched}
 use Rattle.std.proofs.Common.{ℕ, ap}
-use Rattle.root_search.specs.declared.split_parts.KeptPiece.{KeptPiece}
+use Rattle.root_search.specs.declared.fetched_splits.KeptPiece.{KeptPiece}
 use Rattle.root_search.proofs.CallsMade.{one_gave, one_lost}
 use Rattle.root_search.proofs.fetching.fetch_piece.Goals as goal
 

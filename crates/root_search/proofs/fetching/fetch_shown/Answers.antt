@@ -10,7 +10,7 @@ use Rattle.split_bundle.specs.Splits.{IsSplitOf}
 use Rattle.root_search.specs.FetchCalls.{AreKeptBehind, NeverRefused}
 use Rattle.root_search.specs.Fetching.{AreRangesFetched, AreShownFetched}
 use Rattle.root_search.specs.FetchedSplits.{HoldsListed}
-use Rattle.root_search.specs.declared.split_parts.KeptPiece.{KeptPiece}
+use Rattle.root_search.specs.declared.fetched_splits.KeptPiece.{KeptPiece}
 use Rattle.root_search.proofs.CallsMade.{all_of, kept_further, none_called, read_ill, read_well, then_all, then_lost}
 use Rattle.root_search.proofs.Fetches.{all_done, all_short, file_stands, handed_on, made_of, none_made, then_failed, then_given}
 use Rattle.root_search.proofs.Needed.{config_same, none_shown_more, shown_kept, starts_kept}

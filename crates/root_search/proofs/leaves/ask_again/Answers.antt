@@ -14,4 +14,4 @@ returns-in-Ok c = λ all.
     let there = c.in-Some.ensures.lookup.3 in
     subst (λ (l : List SplitShare). AllZip gives views l) (sym c.set.ensures)
     (zip_set gives views c.args.shares.now c.args.place c.in-Some.view.now share all (at_place views c.args.place c.in-Some.view.now there.0 there.1)
-    (record { asked = r; alike = record { query = refl; times = refl; order = refl; aggs = refl }; wanted = refl; few = omega arith; is_leaf = c.in-Ok.ensures }))
+    (record { asked = r; alike = record { query = refl; times = refl; order = refl; aggs = refl }; wanted = refl; some = c.requires.some; few = omega arith; is_leaf = c.in-Ok.ensures }))

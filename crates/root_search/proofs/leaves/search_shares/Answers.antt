@@ -20,4 +20,4 @@ returns-in-Ok-clause-each g c =
     let shares = c.in-Some-2.shares in
     let give = some_is (AllZip (GivesShare s r) views) c.in_ok-shares-2.field-0 shares c.in_ok-shares-2.ensures.give c.in-Some-2.is in
     let enough = some_is (AreEnough r.order r.wanted) c.in_ok-shares-2.field-0 shares c.in_ok-shares-2.ensures.enough c.in-Some-2.is in
-    join_of_shares s r views shares c.in_ok-answers_of_shares.field-0.items c.in-Ok.all give enough c.in_ok-answers_of_shares.ensures c.in-Ok.ensures.each
+    join_of_shares s r views shares c.in_ok-answers_of_shares.field-0.items c.in-Ok.all c.requires.many c.requires.several give enough c.in_ok-answers_of_shares.ensures c.in-Ok.ensures.each

@@ -2,8 +2,8 @@ use Rattle.std.proofs.Common.{List, sym, subst, ◌∙◌}
 use Rattle.std.specs.List.{AllZip}
 use Rattle.split_bundle.specs.declared.pieces.FilePiece.{FilePiece}
 use Rattle.root_search.specs.FetchedSplits.{IsLentOf}
-use Rattle.root_search.specs.declared.split_parts.KeptPiece.{KeptPiece}
-use Rattle.root_search.proofs.split_parts.view_of.Goals as goal
+use Rattle.root_search.specs.declared.fetched_splits.KeptPiece.{KeptPiece}
+use Rattle.root_search.proofs.fetched_splits.view_of.Goals as goal
 
 pub returns : goal.returns
 returns c = λ part footer pieces. record {

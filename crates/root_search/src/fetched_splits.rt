@@ -4,7 +4,7 @@ ghost use Rattle.std.specs.Prelude.{◌≡◌, IfOk, List};
 ghost use Rattle.std.specs.List.{AllZip};
 ghost use Rattle.root_search.specs.PartAnswers.{IsViewOfPart};
 ghost use Rattle.root_search.specs.FetchedSplits.{IsLentOf, IsParted};
-ghost use Rattle.root_search.specs.declared.split_parts.FetchedSplit.{FetchedSplit as Part};
+ghost use Rattle.root_search.specs.declared.fetched_splits.FetchedSplit.{FetchedSplit as Part};
 
 use byte_fields::{Bytes, List};
 use split_bundle::{FilePiece, Footer, PartView, Pieces};

@@ -21,7 +21,7 @@ pub(crate) enum JoinFault {
 
 impl From<AllocError> for JoinFault {
     ghost use Rattle.std.specs.Prelude.{◌≡◌};
-    ghost use Rattle.root_search.specs.declared.splits_error.JoinFault.TheVariants.{Memory};
+    ghost use Rattle.root_search.specs.declared.join_fault.JoinFault.TheVariants.{Memory};
 
     ghost from_gives = { λ a e. e ≡ Memory a };
 

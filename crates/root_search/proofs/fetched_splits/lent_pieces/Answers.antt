@@ -4,7 +4,7 @@ use Rattle.std.proofs.lemmas.List.{take_more}
 use Rattle.split_bundle.specs.declared.pieces.FilePiece.{FilePiece}
 use Rattle.root_search.specs.FetchedSplits.{IsLentOf}
 use Rattle.root_search.proofs.Zipped.{zip_last}
-use Rattle.root_search.proofs.split_parts.lent_pieces.Goals as goal
+use Rattle.root_search.proofs.fetched_splits.lent_pieces.Goals as goal
 
 pub loop-piece-preserved : goal.loop-piece-preserved
 loop-piece-preserved c =

@@ -1,7 +1,7 @@
 use Rattle.std.proofs.Common.{◌∙◌}
 use Rattle.root_search.proofs.Joining.{none_left}
 use Rattle.root_search.proofs.Parting.{parting_begun, parting_done, parting_more}
-use Rattle.root_search.proofs.split_parts.split_footers.Goals as goal
+use Rattle.root_search.proofs.fetched_splits.split_footers.Goals as goal
 
 pub loop-part-init : goal.loop-part-init
 loop-part-init c = parting_begun c.args.parts c.new-footers.result.items c.vacant-splits.result c.from_vec-left.result.items (c.from_vec-left.ensures.items ∙ c.into_vec.ensures) c.new-footers.ensures.items c.vacant-splits.ensures

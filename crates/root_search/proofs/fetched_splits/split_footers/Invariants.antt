@@ -1,6 +1,6 @@
 use Rattle.std.specs.VecDeque.{deque_len}
 use Rattle.root_search.proofs.Parting.{IsParting}
-use Rattle.root_search.proofs.split_parts.split_footers.Given as goal
+use Rattle.root_search.proofs.fetched_splits.split_footers.Given as goal
 
 abbrev pub invariant-loop-part : goal.invariant-loop-part
 invariant-loop-part l = IsParting l.fn.parts l.footers.items l.splits l.left.items

@@ -2,7 +2,7 @@ use Rattle.std.proofs.Common.{◌+◌, List, arith, subst, sym, ◌∙◌}
 use Rattle.split_bundle.specs.declared.part_view.PartView.{PartView}
 use Rattle.root_search.proofs.Joining.{none_left}
 use Rattle.root_search.proofs.Parting.{AreSeen, all_footers_seen, all_splits_seen, seeing_begun, seeing_next}
-use Rattle.root_search.proofs.split_parts.views_of.Goals as goal
+use Rattle.root_search.proofs.fetched_splits.views_of.Goals as goal
 
 pub loop-split-init : goal.loop-split-init
 loop-split-init c = λ parts parted. seeing_begun parts c.args.footers.items c.from_vec-left.result.items c.args.splits.now c.vacant-views.result c.from_vec-left.ensures.items c.vacant-views.ensures parted
