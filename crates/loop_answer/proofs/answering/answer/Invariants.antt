@@ -7,7 +7,7 @@ use Rattle.root_search.specs.Steps.{Client}
 use Rattle.root_search.specs.declared.planned.Planned.{Planned as GivenPlan}
 use Rattle.root_search.specs.declared.searcher.Request.TheVariants as requests
 use Rattle.loop_answer.specs.AnswerAll.{ClientStep, client_at, core_there, reply_of, with_text}
-use Rattle.loop_answer.proofs.Answering.{Fetches}
+use Rattle.loop_answer.proofs.Requesting.{Fetches}
 use Rattle.loop_answer.proofs.answering.answer.Given as goal
 
 abbrev pub invariant-loop : goal.invariant-loop
