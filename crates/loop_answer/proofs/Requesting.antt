@@ -16,7 +16,7 @@ use Rattle.search_api.specs.declared.reply.Reply.{Reply}
 use Rattle.search_api.specs.declared.unanswered.Unanswered.{Unanswered}
 use Rattle.search_api.specs.declared.unanswered.Unanswered.TheVariants as reasons
 use Rattle.loop_base.specs.Ran.{AreSteps, IsLastEnd, Ran, StepMade, calls_of}
-use Rattle.loop_base.proofs.Ran.{OneStep, SoFar, calls_more, goes_then, steps_more}
+use Rattle.loop_base.proofs.Ran.{OneStep, SoFar, calls_more, goes_then, none_so_far, steps_more}
 use Rattle.root_search.specs.Leaving.{LeavesOf, StepLeaves, TakesText, Works}
 use Rattle.root_search.specs.Requests.{ask_of, asked_of}
 use Rattle.root_search.specs.Searching.{IsAnswer, IsRequest, SearcherStands, SearchesAs, Submits, searched_as}
@@ -221,6 +221,14 @@ module _ {W : Type 0} (Stands : W → Core → Log → Type 0) (Between : Core �
   never_next step from log searcher old new count left s never =
       let Q : Option SearchStep → Type 0 = λ outcome. FetchesAs count outcome s.later.request in
       never s.later.request (subst Q s.says (going_of (Ok step) from log searcher old new count left s))
+
+  -- a text is taken, and no step is made yet
+  pub fresh : ((gate : W) → Adds gate [] gate) → (result : Result (Unit {0}) Busy) (before searcher : Searcher) (text : List ℕ) (client : Client) (core : Core) (log : Log) (gate : W) → before.request ≡ requests.Vacant →
+      SearcherStands before client core log → Submits result searcher text client core log → Stands gate core log →
+      SoFar Stands Adds (ClientStep Between log) core_there reply_of (Taken searcher log text) 0 (client_at (with_text text client) core) log gate gate
+  fresh adds_none result before searcher text client core log gate vacant held s stands =
+      none_so_far Stands Adds (ClientStep Between log) core_there reply_of adds_none (Taken searcher log text) (client_at (with_text text client) core) log gate
+      (submitted result searcher text client core log (vacant_client before client core log vacant held) s, refl) stands
 
   -- ---- the last step
 
