@@ -50,7 +50,7 @@ pub one_step : {L W : Type 0} (tells : L → Option Log) (count : L → ℕ) (St
     OneStep Stands Adds (IndexerStep Between log) core_there end_of (Holds tells count log reader) told from log old new
 one_step tells count Stands Between Owns Adds between_goes told from log reader old new s =
     let on : GoesFor Nobody from.core s.behind =
-        goes_then from.core s.mid s.behind (between_goes from.core s.mid s.passed) (goes_less (IsOther (number_held from.indexer.place)) Nobody s.mid s.behind (λ n none. absurd none) s.goes_on) in
+    goes_then from.core s.mid s.behind (between_goes from.core s.mid s.passed) (goes_less (IsOther (number_held from.indexer.place)) Nobody s.mid s.behind (λ n none. absurd none) s.goes_on) in
     record {
       made = s.made;
       to = indexer_at s.after s.behind;

@@ -38,7 +38,7 @@ pub one_step : {W : Type 0} (Stands : W → Core → Log → Type 0) (Between : 
     StepsAs Stands Between Owns Adds aim told from.place from.core log kept old new → OneStep Stands Adds (WorkerStep Between aim log) core_there end_of (Holds aim log kept) told from log old new
 one_step Stands Between Owns Adds between_goes aim told from log kept old new s =
     let on : GoesFor Nobody from.core s.behind =
-        goes_then from.core s.mid s.behind (between_goes from.core s.mid s.passed) (goes_less (IsOther (number_held from.place)) Nobody s.mid s.behind (λ n none. absurd none) s.goes_on) in
+    goes_then from.core s.mid s.behind (between_goes from.core s.mid s.passed) (goes_less (IsOther (number_held from.place)) Nobody s.mid s.behind (λ n none. absurd none) s.goes_on) in
     record {
       made = s.made;
       to = worker_at s.after s.behind;
@@ -185,7 +185,7 @@ module _ (Between : Core → Core → Type 0) (aim : Aim) (log : Log) (between_g
       let told_is : step.result ≡ Ok (said.Fault (errors.StoreFault before now)) = fault_answer step.result (errors.StoreFault before now) e in
       let outcome_is = answer_fault before now s.outcome (subst (λ told. Answers told s.outcome) told_is s.answer) in
       let did : step_worker aim s.luck log from.place s.mid ≡ record { outcome = Some (Faulted (store_fault before now)); place = to.place; core = to.core } =
-          s.did ∙ ap (λ o. record { outcome = o; place = to.place; core = to.core }) outcome_is in
+      s.did ∙ ap (λ o. record { outcome = o; place = to.place; core = to.core }) outcome_is in
       let P : Stepped → Type 0 = λ stepped. StepSays s.mid.store_faults stepped in
       let c : FaultWithin s.mid.store_faults (store_fault before now) to.core.store_faults = subst P did (worker_said s.luck log s.mid aim from.place) in
       let up = (between_goes from.core s.mid s.passed).faults in

@@ -49,12 +49,7 @@ fn end_of(answer: Result<UpkeepOutcome, AllocError>) -> Option<WorkerEnd>
 }
 
 /// Takes so many steps of a merger at most, up to the first that finds nothing to do, is refused, fails, or finds no memory.
-pub fn merge_all<G: Gate>(
-    alloc: Global,
-    gate: &mut G,
-    merger: &mut Merger,
-    turns: u64,
-) -> WorkerEnd
+pub fn merge_all<G: Gate>(alloc: Global, gate: &mut G, merger: &mut Merger, turns: u64) -> WorkerEnd
     requires owns { HoldsOwn G.Owns gate.old merger.old.place }
     requires begun { (log : Log) → G.Begins gate.old log → IsLog log × ((place : Stand) × (core : Core) × PlaceStands Merging log core merger.old.place place × G.Stands gate.old core log) }
     ensures later { G.since gate.old gate.new }

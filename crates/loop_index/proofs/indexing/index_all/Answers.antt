@@ -30,7 +30,7 @@ returns-in-Some-clause-ran g c actor core read held s =
     let l = g.L.SourceLog in
     let so_far = c.loop.invariant.4 actor core read held s in
     let one = one_step l.told l.fault_count t.Stands t.Between t.Owns t.Adds g.met.G.Gate.between_goes c.step.result so_far.last read c.step.new.self c.loop.gate c.step.new.gate
-        (c.step.ensures.step so_far.last.indexer so_far.last.core read so_far.left so_far.stands) in
+    (c.step.ensures.step so_far.last.indexer so_far.last.core read so_far.left so_far.stands) in
     ran_did t.Between read g.met.G.Gate.between_goes l.told l.fault_count t.Stands t.Adds c.args.turns c.in-Some.end c.step.new.self actor core c.args.gate.now c.step.new.gate
     (ended_here t.Stands t.Adds (IndexerStep t.Between read) core_there end_of g.met.G.Gate.adds_more (Holds l.told l.fault_count read c.loop.indexer) (Holds l.told l.fault_count read c.step.new.self) c.loop.counter
     (indexer_at actor core) read c.args.gate.now c.loop.gate c.step.new.gate so_far c.step.result one Turns c.args.turns c.in-Some.end (sym c.end_of.ensures ∙ c.in-Some.is) c.loop-test.true)
@@ -44,11 +44,11 @@ loop-preserved g c =
       g.met.G.Gate.since_more c.args.gate.now c.loop.gate c.step.new.gate c.loop.invariant.1 c.step.ensures.later_gate,
       c.step.ensures.owns,
       going_more (IndexesOnce l.told l.fault_count t.told t.configured t.Answers) end_of c.loop.counter (reader_at c.args.indexer.now c.args.gate.now) (reader_at c.loop.indexer c.loop.gate)
-      (reader_at c.step.new.self c.step.new.gate) c.loop.invariant.3 c.step.result c.step.ensures.ends goes,
+          (reader_at c.step.new.self c.step.new.gate) c.loop.invariant.3 c.step.result c.step.ensures.ends goes,
       λ actor core read held s.
           let so_far = c.loop.invariant.4 actor core read held s in
           let one = one_step l.told l.fault_count t.Stands t.Between t.Owns t.Adds g.met.G.Gate.between_goes c.step.result so_far.last read c.step.new.self c.loop.gate c.step.new.gate
-              (c.step.ensures.step so_far.last.indexer so_far.last.core read so_far.left so_far.stands) in
+          (c.step.ensures.step so_far.last.indexer so_far.last.core read so_far.left so_far.stands) in
           one_more t.Stands t.Adds (IndexerStep t.Between read) core_there end_of g.met.G.Gate.adds_more (Holds l.told l.fault_count read c.loop.indexer) (Holds l.told l.fault_count read c.step.new.self) c.loop.counter
           (indexer_at actor core) read c.args.gate.now c.loop.gate c.step.new.gate so_far c.step.result one goes,
     )

@@ -33,7 +33,7 @@ returns-in-Some-clause-ran g c place core log is held s =
     let t = g.G.Gate in
     let so_far = c.loop.invariant.3 place core log is held s in
     let one = one_step t.Stands t.Between t.Owns t.Adds g.met.G.Gate.between_goes Deleting c.step.result so_far.last log c.step.new.self.place c.loop.gate c.step.new.gate
-        (c.step.ensures.step so_far.last.place so_far.last.core log is so_far.left so_far.stands) in
+    (c.step.ensures.step so_far.last.place so_far.last.core log is so_far.left so_far.stands) in
     ran_did t.Between Deleting log g.met.G.Gate.between_goes t.Stands t.Adds c.args.turns c.in-Some.end c.step.new.self.place place core c.args.gate.now c.step.new.gate
     (ended_here t.Stands t.Adds (WorkerStep t.Between Deleting log) core_there end_of g.met.G.Gate.adds_more (Holds Deleting log c.loop.worker.place) (Holds Deleting log c.step.new.self.place) c.loop.counter
     (worker_at place core) log c.args.gate.now c.loop.gate c.step.new.gate so_far c.step.result one Turns c.args.turns c.in-Some.end (sym c.end_of.ensures ∙ c.in-Some.is) c.loop-test.true)
@@ -45,11 +45,11 @@ loop-preserved g c =
       g.met.G.Gate.since_more c.args.gate.now c.loop.gate c.step.new.gate c.loop.invariant.0 c.step.ensures.later,
       c.step.ensures.owns,
       going_more (DeletesOnce t.told t.configured t.Answers) end_of c.loop.counter (held_at c.args.worker.now.place c.args.gate.now) (held_at c.loop.worker.place c.loop.gate)
-      (held_at c.step.new.self.place c.step.new.gate) c.loop.invariant.2 c.step.result (c.step.ensures.ends, c.step.ensures.corrupt) goes,
+          (held_at c.step.new.self.place c.step.new.gate) c.loop.invariant.2 c.step.result (c.step.ensures.ends, c.step.ensures.corrupt) goes,
       λ place core log is held s.
           let so_far = c.loop.invariant.3 place core log is held s in
           let one = one_step t.Stands t.Between t.Owns t.Adds g.met.G.Gate.between_goes Deleting c.step.result so_far.last log c.step.new.self.place c.loop.gate c.step.new.gate
-              (c.step.ensures.step so_far.last.place so_far.last.core log is so_far.left so_far.stands) in
+          (c.step.ensures.step so_far.last.place so_far.last.core log is so_far.left so_far.stands) in
           one_more t.Stands t.Adds (WorkerStep t.Between Deleting log) core_there end_of g.met.G.Gate.adds_more (Holds Deleting log c.loop.worker.place) (Holds Deleting log c.step.new.self.place) c.loop.counter
           (worker_at place core) log c.args.gate.now c.loop.gate c.step.new.gate so_far c.step.result one goes,
     )
