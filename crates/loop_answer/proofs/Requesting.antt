@@ -1,6 +1,6 @@
 -- A request's steps, one behind another.
 use Rattle.std.proofs.Common.{◌≡◌, ◌⊎◌, inl, inr, ℕ, zero, suc, ◌+◌, ◌≤◌, ◌<◌, Bool, true, false, List, [], ◌∷◌, ◌++◌, length, refl, sym, ap, ◌∙◌, subst, arith}
-use Rattle.std.specs.Prelude.{Option, Some, None, Result, Ok, Err, ⊤, map}
+use Rattle.std.specs.Prelude.{IfOk, IsErrAnd, Option, Some, None, Result, Ok, Err, ⊤, map}
 use Rattle.std.specs.declared.alloc.AllocError.{AllocError}
 use Rattle.std.proofs.lemmas.List.{length-append}
 use Rattle.source_log.specs.Log.{Log}
@@ -63,19 +63,19 @@ IsLeft count request = (plan : Plan) × (request ≡ planned plan) × (length pl
 
 -- behind the first step of a text
 abbrev pub BeginsAs : Option SearchStep → Request → Type 0
-BeginsAs None request = ⊤
-BeginsAs (Some Idle) request = ⊥
-BeginsAs (Some (Planned revision count)) request = IsLeft count request
-BeginsAs (Some (Fetched number)) request = ⊥
-BeginsAs (Some (Replied reply)) request = ⊤
+BeginsAs None asked = ⊤
+BeginsAs (Some Idle) asked = ⊥
+BeginsAs (Some (Planned revision count)) asked = IsLeft count asked
+BeginsAs (Some (Fetched number)) asked = ⊥
+BeginsAs (Some (Replied reply)) asked = ⊤
 
 -- behind a step of a plan of which so many splits were still to be fetched
 abbrev pub FetchesAs : ℕ → Option SearchStep → Request → Type 0
-FetchesAs count None request = ⊤
-FetchesAs count (Some Idle) request = ⊥
-FetchesAs count (Some (Planned revision other)) request = ⊥
-FetchesAs count (Some (Fetched number)) request = (less : ℕ) × (count ≡ suc less) × IsLeft less request
-FetchesAs count (Some (Replied reply)) request = ⊤
+FetchesAs count None asked = ⊤
+FetchesAs count (Some Idle) asked = ⊥
+FetchesAs count (Some (Planned revision other)) asked = ⊥
+FetchesAs count (Some (Fetched number)) asked = (less : ℕ) × (count ≡ suc less) × IsLeft less asked
+FetchesAs count (Some (Replied reply)) asked = ⊤
 
 abbrev Begun : Searched → Type 0
 Begun step = BeginsAs step.outcome step.client.request
@@ -143,6 +143,20 @@ next_goes passage more short log client plan is =
 -- the searcher of the code stands for it, and it has taken this text
 abbrev pub Taken : Searcher → Log → List ℕ → ClientAt → Type 0
 Taken searcher log text at = SearcherStands searcher at.client at.core log × (at.client.request ≡ opened text)
+
+-- an error that is this one
+pub err_of : {A : Type 0} (result : Result A AllocError) (e : AllocError) → IsErrAnd result (λ other. other ≡ e) → result ≡ Err e
+err_of (Ok a) e is = absurd is
+err_of (Err other) e is = ap (λ x. Err x) is
+
+-- of an error nothing is said
+pub own_err : (P : Reply → Type 0) (result : Result Reply AllocError) (e : AllocError) → IsErrAnd result (λ other. other ≡ e) → IfOk result P
+own_err P (Ok reply) e is = absurd is
+own_err P (Err other) e is = tt
+
+pub own_none : (P : Reply → Type 0) (result : Result Reply AllocError) (e : AllocError) → result ≡ Err e → IfOk result P
+own_none P (Ok reply) e is = absurd cc
+own_none P (Err other) e is = tt
 
 -- so many of the planned splits are fetched, and the others are still to be
 abbrev pub Fetches : Searcher → Log → (fetched count : ℕ) → ClientAt → Type 0
@@ -221,6 +235,11 @@ module _ {W : Type 0} (Stands : W → Core → Log → Type 0) (Between : Core �
   never_next step from log searcher old new count left s never =
       let Q : Option SearchStep → Type 0 = λ outcome. FetchesAs count outcome s.later.request in
       never s.later.request (subst Q s.says (going_of (Ok step) from log searcher old new count left s))
+
+  -- a step that answered so
+  pub as_told : (told same : Told) (from : ClientAt) (log : Log) (searcher : Searcher) (old new : W) → told ≡ same → SearchesAs Stands Between Adds old told searcher new from.client from.core log →
+      SearchesAs Stands Between Adds old same searcher new from.client from.core log
+  as_told told same from log searcher old new is s = let P : Told → Type 0 = λ answer. SearchesAs Stands Between Adds old answer searcher new from.client from.core log in subst P is s
 
   -- a text is taken, and no step is made yet
   pub fresh : ((gate : W) → Adds gate [] gate) → (result : Result (Unit {0}) Busy) (before searcher : Searcher) (text : List ℕ) (client : Client) (core : Core) (log : Log) (gate : W) → before.request ≡ requests.Vacant →
