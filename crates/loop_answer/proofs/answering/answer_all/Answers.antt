@@ -43,7 +43,7 @@ pub loop-text-preserved : goal.loop-text-preserved
 loop-text-preserved g c =
     let t = g.G.Gate in
     let taken : (c.loop-text.yielded ++ c.in-Some.text ∷ []) ++ into_iter_items c.next.new.self ≡ c.args.texts.items =
-        append_assoc c.loop-text.yielded (c.in-Some.text ∷ []) (into_iter_items c.next.new.self) ∙ (ap (λ l. c.loop-text.yielded ++ l) (sym c.in-Some.ensures.steps.0) ∙ c.loop-text.invariant.2) in
+    append_assoc c.loop-text.yielded (c.in-Some.text ∷ []) (into_iter_items c.next.new.self) ∙ (ap (λ l. c.loop-text.yielded ++ l) (sym c.in-Some.ensures.steps.0) ∙ c.loop-text.invariant.2) in
     let items : c.push.new.self.items ≡ c.loop-text.replies.items ++ c.in_ok-reply.reply ∷ [] = c.in_ok-push.ensures.items ∙ ap (λ l. l ++ c.in_ok-reply.reply ∷ []) c.reserve.ensures.items in (
       tt,
       tt,
