@@ -29,8 +29,6 @@ fn dropped(searcher: &mut Searcher) -> Result<Reply, AllocError>
 
 /// Answers one request of a client that has none: it is planned or refused, each planned split is fetched, and they are searched. The hold
 /// is told before they are.
-
-#[tactic(none)]
 pub fn answer<Rt: Threads + Sync, G: Gate, H: LeafHold>(
     rt: &Rt,
     alloc: Global,
