@@ -15,7 +15,7 @@ mod wrong;
 
 use crate::table::play_table;
 use object_store::{CreateError, GetError, Key, ObjectStore};
-use real_edge::{FileLog, FolderStore};
+use real_edge::{FileLog, FolderStore, HostDisk};
 use source_checkpoint::Partition;
 use source_log::SourceLog;
 use std::alloc::{AllocError, Global};
@@ -225,7 +225,7 @@ fn answer_all<
 fn store_of<'a>(
     rt: &'a HostRuntime,
     word: Option<&str>,
-) -> Result<FolderStore<'a, HostRuntime>, AllocError> {
+) -> Result<FolderStore<HostDisk<'a, HostRuntime>>, AllocError> {
     match word {
         Some("reading") => FolderStore::reading(rt.alloc(), rt, "store"),
         word => FolderStore::writing(rt.alloc(), rt, "store", number(word)),
