@@ -6,3 +6,4 @@ pub mod Walks
 pub mod Lasting
 pub mod Positions
 pub mod Entries
+pub mod Calls

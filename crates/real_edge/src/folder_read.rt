@@ -53,8 +53,8 @@ impl FolderRead {
     pub fn settle<D: Disk>(&mut self, disk: &mut D) -> bool
         ensures { Leaves (D.told disk.old) (D.told disk.new) (D.may_leave disk.old) (D.may_leave disk.new) (D.has_way disk.old) (D.has_way disk.new) }
     {
-        let found = disk.stamp(self.name());
         if self.stamp.is_none() {
+            let found = disk.stamp(self.name());
             self.stamp = found;
         }
         match (self.began, self.stamp) {
