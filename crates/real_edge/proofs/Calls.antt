@@ -21,21 +21,11 @@ use Rattle.real_edge.specs.Names.{is_object}
 use Rattle.real_edge.specs.Objects.{objects_of, state_of, state_in, create_answer, delete_answer, KeepsObjects, KeepsSafe, Places, IsPlaced, IsTaken, Takes}
 use Rattle.real_edge.specs.Walk.{Covers, IsCovering, Gives, left_of}
 use Rattle.real_edge.proofs.Maps.{get_here}
-use Rattle.real_edge.proofs.Steps.{state_kept, safe_shown, failed, refused, places_behind, untaken, half_taken, taken_unsynced, taken_synced}
+use Rattle.real_edge.proofs.Steps.{state_kept, safe_shown, untaken, half_taken, taken_unsynced, taken_synced}
 use Rattle.real_edge.proofs.Wheres.{where_map, where_then, where_same, where_beside, if_then, if_said, works}
 use Rattle.real_edge.proofs.Walks.{none_left, covers_kept, differs}
 
 -- ---- making
-
-pub where_placed : (a b c : Option Files) (name content : List ℕ) (r : Result (Unit {0}) MakeError) (l m n : Files → Type 0) → Where a b (KeepsObjects l m) → Where b c (Places name content r m n) → Where a c (Places name content r l n)
-where_placed a b c name content r l m n k h =
-    where_then a b c {P = KeepsObjects l m} {Q = Places name content r m n} {R = Places name content r l n} (λ o x y p q. places_behind name content r l m n o x y p q) k h
-
-pub where_failed : (a b : Option Files) (name content : List ℕ) (t : Trouble) (l m : Files → Type 0) → Where a b (KeepsObjects l m) → Where a b (Places name content (Err (makes.Failed t)) l m)
-where_failed a b name content t l m k = where_map a b {P = KeepsObjects l m} {Q = Places name content (Err (makes.Failed t)) l m} (λ o n h. failed name content t l m o n h) k
-
-pub where_refused : (a b : Option Files) (name content : List ℕ) (e : AllocError) (l m : Files → Type 0) → Where a b (KeepsObjects l m) → Where a b (Places name content (Err (makes.Memory e)) l m)
-where_refused a b name content e l m k = where_map a b {P = KeepsObjects l m} {Q = Places name content (Err (makes.Memory e)) l m} (λ o n h. refused name content e l m o n h) k
 
 on_disk_of : (name content : List ℕ) (r : Result (Unit {0}) MakeError) (after : Files → Type 0) → OnOk r (IsSafe after name content) → OnOk (create_answer r) (IsSafe after name content)
 on_disk_of name content (Ok done) after h = h
@@ -60,7 +50,7 @@ removes_more name (Ok done) l m n o f more h = (h.0, turn_more name None l m n m
 removes_more name (Err t) l m n o f more h = (h.0, turn_more name None l m n more h.1)
 
 pub where_untaken : (a b : Option Files) (name : List ℕ) (t : Trouble) (l m : Files → Type 0) (u v : List ℕ → Type 0) → Leaves a b l m u v → Where a b (Takes name (Err t) l m)
-where_untaken a b name t l m u v h = where_same a b {P = Takes name (Err t) l m} (λ f. untaken name t l m f h.left) h.same
+where_untaken a b name t l m u v h = where_same a b (Takes name (Err t) l m) (λ f. untaken name t l m f h.left) h.same
 
 pub where_half_taken : (a b c : Option Files) (name : List ℕ) (t : Trouble) (l m n : Files → Type 0) (u v : List ℕ → Type 0) → Leaves a b l m u v → Where b c (Removes name (Err t) m n) → Where a c (Takes name (Err t) l n)
 where_half_taken a b c name t l m n u v h k =
@@ -100,7 +90,7 @@ if_kept a b l m h = if_said a b {P = KeepsObjects l m} {R = KeepsSafe l m} (λ o
 
 finds_of : (key : List ℕ) (from len : ℕ) (piece : Piece) (l m : Files → Type 0) (o n : Files) → is_object key ≡ true → KeepsObjects l m o n → Reads key from len (Some piece) n → Finds (finmap.get (objects_of o) key) from len (Ok piece)
 finds_of key from len piece l m o n is k h =
-    subst (λ (x : Option (List ℕ)). Finds x from len (Ok piece)) (sym (get_here o key is ∙ sym (k.same key is) ∙ h.1.0)) h.1.1
+    subst (λ (x : Option (List ℕ)). Finds x from len (Ok piece)) (sym (get_here o key is ∙ sym (k.same key is) ∙ h.1)) h.2
 
 pub gets_found : (a b : Option Files) (key : List ℕ) (from len : ℕ) (piece : Piece) (l m : Files → Type 0) → is_object key ≡ true → Where a b (KeepsObjects l m) → IfSome b (λ f. Reads key from len (Some piece) f)
     → AfterLanding (state_in a) (state_in b) (Gets key from len (Ok piece))

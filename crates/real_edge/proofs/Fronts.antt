@@ -1,6 +1,7 @@
 -- What a name begins with.
 use Rattle.std.proofs.Common.{◌≡◌, ◌≢◌, ◌⊎◌, ℕ, zero, suc, ◌+◌, ◌-◌, ◌<◌, ◌≤◌, nat_eq, Bool, true, false, ◌&&◌, ◌||◌, cond, List, [], ◌∷◌, ◌++◌, length, take, drop, Option, Some, None, refl, sym, ap, subst, ◌∙◌, inl, inr, arith, add-one}
-use Rattle.std.specs.List.{starts_with, list_all}
+use Rattle.std.specs.Prelude.{◌==◌}
+use Rattle.std.specs.List.{starts_with}
 use Rattle.std.specs.Ordering.{nat_cmp, is_lt, ordering_then}
 use Rattle.std.specs.Cmp.{nat_cmp_is}
 use Rattle.std.specs.Cmp.Lexicographic.{slice_cmp}
@@ -68,7 +69,7 @@ not_before front name h = subst (λ (z : List ℕ). is_lt (slice_cmp nat_cmp z f
     longer : (f rest : List ℕ) → is_lt (slice_cmp nat_cmp (f ++ rest) f) ≡ false
     longer [] [] = refl
     longer [] (x ∷ xs) = refl
-    longer (c ∷ cs) rest = rw (sym (nat_cmp_is c c Equal refl)) (longer cs rest)
+    longer (c ∷ cs) rest = ap (λ r. is_lt (ordering_then r (slice_cmp nat_cmp (cs ++ rest) cs))) (sym (nat_cmp_is c c Equal refl)) ∙ longer cs rest
 
 -- A key before a name is before each front of it, or begins with that.
 pub before_front : (a f rest : List ℕ) → is_lt (slice_cmp nat_cmp a (f ++ rest)) ≡ true → Begins f a ⊎ (is_lt (slice_cmp nat_cmp a f) ≡ true)

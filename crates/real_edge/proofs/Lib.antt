@@ -7,3 +7,4 @@ pub mod Lasting
 pub mod Positions
 pub mod Entries
 pub mod Calls
+pub mod Ordered

@@ -13,7 +13,8 @@ use Rattle.object_store.specs.Store.{State, Creates, Deletes, with_object}
 use Rattle.real_edge.specs.declared.faults.Trouble.{Trouble}
 use Rattle.real_edge.specs.declared.disk.MakeError.{MakeError}
 use Rattle.real_edge.specs.declared.disk.MakeError.TheVariants as makes
-use Rattle.real_edge.specs.Disk.{Files, Where, Leaves, SameBut, NoMore, Turns, MayTurn, MayStir, IsSettled, IsSafe, HalfMade, Makes, Links, LinksTo, LinkFails, Removes}
+use Rattle.real_edge.specs.declared.disk.Standing.TheVariants as standings
+use Rattle.real_edge.specs.Disk.{Files, Where, Leaves, Looks, SameBut, NoMore, Turns, MayTurn, MayStir, IsSettled, IsSafe, HalfMade, Makes, Links, LinksTo, LinkFails, Removes}
 use Rattle.real_edge.specs.Names.{is_object}
 use Rattle.real_edge.specs.Objects.{objects_of, state_of, create_answer, delete_answer, both_of, ShowsNoMore, KeepsObjects, KeepsSafe, Made, Places, IsTaken, Takes}
 use Rattle.real_edge.proofs.Maps.{get_here, same_objects, objects-insert, objects-remove, cases_same, apart}
@@ -318,3 +319,26 @@ pub where_removed : (a b c : Option Files) (name : List ℕ) (r : Result (Unit {
 where_removed a b c name r l m n not k h =
     where_then a b c {P = KeepsObjects l m} {Q = Removes name r m n} {R = KeepsObjects l n}
     (λ o x y p q. keeps-then l m n o x y p (removed name r m n x y not q)) k h
+
+-- ---- a create behind other calls
+
+pub where_placed : (a b c : Option Files) (name content : List ℕ) (r : Result (Unit {0}) MakeError) (l m n : Files → Type 0) → Where a b (KeepsObjects l m) → Where b c (Places name content r m n) → Where a c (Places name content r l n)
+where_placed a b c name content r l m n k h =
+    where_then a b c {P = KeepsObjects l m} {Q = Places name content r m n} {R = Places name content r l n} (λ o x y p q. places_behind name content r l m n o x y p q) k h
+
+pub where_failed : (a b : Option Files) (name content : List ℕ) (t : Trouble) (l m : Files → Type 0) → Where a b (KeepsObjects l m) → Where a b (Places name content (Err (makes.Failed t)) l m)
+where_failed a b name content t l m k = where_map a b {P = KeepsObjects l m} {Q = Places name content (Err (makes.Failed t)) l m} (λ o n h. failed name content t l m o n h) k
+
+pub where_refused : (a b : Option Files) (name content : List ℕ) (e : AllocError) (l m : Files → Type 0) → Where a b (KeepsObjects l m) → Where a b (Places name content (Err (makes.Memory e)) l m)
+where_refused a b name content e l m k = where_map a b {P = KeepsObjects l m} {Q = Places name content (Err (makes.Memory e)) l m} (λ o n h. refused name content e l m o n h) k
+
+-- an object stands already
+pub where_stood : (a b d : Option Files) (name content : List ℕ) (l m n : Files → Type 0) (u v w : List ℕ → Type 0) → is_object name ≡ true → Leaves a b l m u v → Leaves b d m n v w → IfSome b (λ f. Looks name standings.PlainFile f)
+    → Where a d (Places name content (Err makes.Exists) l n)
+where_stood a b d name content l m n u v w is p q looks =
+    subst (λ (x : Option Files). Where x d (Places name content (Err makes.Exists) l n)) p.same
+    (subst (λ (x : Option Files). Where b x (Places name content (Err makes.Exists) l n)) (sym q.same) (by b looks))
+  where
+    by : (x : Option Files) → IfSome x (λ f. Looks name standings.PlainFile f) → Where x x (Places name content (Err makes.Exists) l n)
+    by None h = tt
+    by (Some f) h = stood name content l n f is h.0 (λ c left. p.left c (q.left c left))

@@ -200,7 +200,7 @@ given prefix after files w is first =
             absurd (true_false (sym less ∙ first x (record { stands = s.0; object = s.1; wanted = e })))
 
 no_one : (w : Wait) → Contains [] w → ⊥
-no_one w h = omega (arith, h.1.0)
+no_one w h = omega (arith, h.1)
 
 pub none_left : (prefix : List ℕ) (after : Option (List ℕ)) (files : Files) → Covers prefix after [] files → listed prefix after (objects_of files) ≡ []
 none_left prefix after files h = none_kept (is_wanted prefix after) (finmap.entries (objects_of files)) none
@@ -213,7 +213,7 @@ none_left prefix after files h = none_kept (is_wanted prefix after) (finmap.entr
         by true e =
             let s = is_among files x any in
             let led = h x (record { stands = s.0; object = s.1; wanted = e }) in
-            absurd (no_one led.0 led.1.0)
+            absurd (no_one led.0 led.1)
 
 -- ---- what leads to a file comes before it
 
@@ -240,20 +240,20 @@ none_then x some e = subst (λ (y : Option (List ℕ)). IsSome y) e some
 -- what is led to is led to by the next one or by another
 split : (w : Wait) (n : Wait) (ws : List Wait) → Contains (n ∷ ws) w → (w ≡ n) ⊎ Contains ws w
 split w n ws h = elim (Contains-append_cases (n ∷ []) ws w h) [
-  | inl here ↦ inl (one here)
+  | inl here ↦ inl (one (Contains-push_cases [] n w here))
   | inr later ↦ inr later
 ]
   where
-    one : Contains (n ∷ []) w → w ≡ n
-    one (zero, (lt, e)) = sym e
-    one (suc k, (lt, e)) = absurd (omega (arith, lt))
+    one : Contains [] w ⊎ (n ≡ w) → w ≡ n
+    one (inl none) = absurd (no_one w none)
+    one (inr e) = sym e
 
 pub all_behind : (prefix : List ℕ) (after : Option (List ℕ)) (files : Files) (n : Wait) (ws : List Wait) → IsFirst n.key ws → Covers prefix after (n ∷ ws) files
     → (q : List ℕ) → IsSought prefix after files q → is_lt (slice_cmp nat_cmp q n.key) ≡ false
 all_behind prefix after files n ws first covers q is =
     let led = covers q is in
-    let from : is_lt (slice_cmp nat_cmp q led.0.key) ≡ false = not_before led.0.key q (led_begins led.0.is_folder led.0.key q led.1.1) in
-    elim (split led.0 n ws led.1.0) [
+    let from : is_lt (slice_cmp nat_cmp q led.0.key) ≡ false = not_before led.0.key q (led_begins led.0.is_folder led.0.key q led.2) in
+    elim (split led.0 n ws led.1) [
       | inl e ↦ subst (λ (w : Wait). is_lt (slice_cmp nat_cmp q w.key) ≡ false) e from
       | inr later ↦ not_behind q led.0.key n.key from (first led.0 later)
     ]
@@ -268,9 +268,9 @@ pub passed : (prefix : List ℕ) (after after' : Option (List ℕ)) (files : Fil
     → Covers prefix after (n ∷ ws) files → Covers prefix after' new files
 passed prefix after after' files n ws new sought here rest covers q is =
     let led = covers q (sought q is) in
-    elim (split led.0 n ws led.1.0) [
-      | inl e ↦ here q is (subst (λ (w : Wait). Leads w q) e led.1.1)
-      | inr later ↦ (led.0, rest led.0 later, led.1.1)
+    elim (split led.0 n ws led.1) [
+      | inl e ↦ here q is (subst (λ (w : Wait). Leads w q) e led.2)
+      | inr later ↦ (led.0, rest led.0 later, led.2)
     ]
 
 -- a name of a plain file, or of nothing, that is not sought
@@ -303,8 +303,8 @@ read_covers prefix after folder ws found new names files covers all meets put re
       let rest_is : drop (length folder) q ≡ h.0 = ap (drop (length folder)) h.1 ∙ own_rest folder h.0 in
       let name : List ℕ = first_part (drop (length folder) q) in
       let led = meets name (all q is.stands h) q is.object is.wanted (leads name h rest_is) in
-      (led.0, put led.0 led.1.0, led.1.1)
-  | inr led ↦ (led.0, rest led.0 led.1.0, led.1.1)
+      (led.0, put led.0 led.1, led.2)
+  | inr led ↦ (led.0, rest led.0 led.1, led.2)
 ]
   where
     leads : (name : List ℕ) (h : Begins folder q) → drop (length folder) q ≡ h.0 → LeadsBy false (folder ++ first_part (drop (length folder) q)) q
@@ -316,9 +316,9 @@ read_covers prefix after folder ws found new names files covers all meets put re
 pub with_folder : (prefix : List ℕ) (after : Option (List ℕ)) (n : Wait) (ws : List Wait) (files : Files) → n.is_folder ≡ true → Covers prefix after (n ∷ ws) files → CoversWith prefix after n.key ws files
 with_folder prefix after n ws files folder covers q is =
     let led = covers q is in
-    elim (split led.0 n ws led.1.0) [
-      | inl e ↦ inl (led_begins n.is_folder n.key q (subst (λ (w : Wait). Leads w q) e led.1.1))
-      | inr later ↦ inr (led.0, later, led.1.1)
+    elim (split led.0 n ws led.1) [
+      | inl e ↦ inl (led_begins n.is_folder n.key q (subst (λ (w : Wait). Leads w q) e led.2))
+      | inr later ↦ inr (led.0, later, led.2)
     ]
 
 -- ---- other files come and go
@@ -436,10 +436,10 @@ nothing_begins t prefix after way ws h none = if_map t one none
 
 -- the front of a name up to a slash
 pub slash_front : (name : List ℕ) (n : ℕ) → 0 < n → n ≤ length name → slice_index name (n - 1) ≡ 47 → take n name ≡ take (n - 1) name ++ 47 ∷ []
-slash_front name zero p within is = absurd (omega arith)
-slash_front [] (suc n) p within is = absurd (omega arith)
-slash_front (x ∷ name) (suc zero) p within is = ap (λ z. z ∷ []) is
-slash_front (x ∷ name) (suc (suc n)) p within is = ap (λ z. x ∷ z) (slash_front name (suc n) (omega arith) (omega arith) is)
+slash_front name n some within is =
+    let next : n ≡ (n - 1) + 1 = omega (arith, some) in
+    let inside : n - 1 < length name = omega (arith, some, within) in
+    ap (λ k. take k name) next ∙ take_more name (n - 1) 0 inside ∙ ap (λ x. take (n - 1) name ++ x ∷ []) is
 
 pub front_begins : (name : List ℕ) (n : ℕ) → Begins (take n name) name
 front_begins name n = (drop n name, parted n name)

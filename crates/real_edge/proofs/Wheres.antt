@@ -23,8 +23,8 @@ where_then (Some o) (Some m) None f h k = k
 where_then (Some o) (Some m) (Some n) f h k = f o m n h k
 
 -- what is said of the files that a call leaves alone
-pub where_same : (a b : Option Files) {P : Files → Files → Type 0} → ((f : Files) → P f f) → b ≡ a → Where a b P
-where_same a b {P} f e = subst (λ (x : Option Files). Where a x P) (sym e) (by a)
+pub where_same : (a b : Option Files) (P : Files → Files → Type 0) → ((f : Files) → P f f) → b ≡ a → Where a b P
+where_same a b P f e = subst (λ (x : Option Files). Where a x P) (sym e) (by a)
   where
     by : (x : Option Files) → Where x x P
     by None = tt
@@ -100,7 +100,7 @@ pub where_keeps : (a b c : Option Files) (l m n : Files → Type 0) → Where a 
 where_keeps a b c l m n p q = where_then a b c (λ x y z. keeps-then l m n x y z) p q
 
 pub where_left : (a b : Option Files) (l m : Files → Type 0) (u v : List ℕ → Type 0) → Leaves a b l m u v → Where a b (KeepsObjects l m)
-where_left a b l m u v h = where_same a b (λ f. keeps_left l m f h.left) h.same
+where_left a b l m u v h = where_same a b (KeepsObjects l m) (λ f. keeps_left l m f h.left) h.same
 
 -- a fact of the files behind, beside what was done
 pub where_beside : (a b : Option Files) {P R : Files → Files → Type 0} {Q : Files → Type 0} → ((o n : Files) → Q n → P o n → R o n) → IfSome b Q → Where a b P → Where a b R
@@ -117,11 +117,11 @@ same_told (Some o) None before after h = absurd h
 same_told (Some o) (Some n) before after h = ap (λ (f : Files). Some f) h.0
 
 -- What a call says of the files that it leaves alone holds of them behind it.
-pub if_left : (a b : Option Files) {Q : Files → Type 0} → b ≡ a → IfSome a Q → IfSome b Q
-if_left a b {Q} e h = subst (λ (x : Option Files). IfSome x Q) (sym e) h
+pub if_left : (a b : Option Files) (Q : Files → Type 0) → b ≡ a → IfSome a Q → IfSome b Q
+if_left a b Q e h = subst (λ (x : Option Files). IfSome x Q) (sym e) h
 
 pub where_leaves : (a b c : Option Files) (l m n : Files → Type 0) → Where a b (KeepsObjects l m) → (c ≡ b) → NoMore m n → Where a c (KeepsObjects l n)
 where_leaves a b c l m n h e more = subst (λ (x : Option Files). Where a x (KeepsObjects l n)) (sym e) (where_map a b {P = KeepsObjects l m} {Q = KeepsObjects l n} (λ x y k. record { same = k.same; left = shows-then l m n k.left (shows-more m n more) }) h)
 
 pub where_all : (a : Option Files) (l : Files → Type 0) → Where a a (KeepsObjects l l)
-where_all a l = where_same a a (λ f. record { same = λ q is. refl; left = shows-more l l (λ c h. h) }) refl
+where_all a l = where_same a a (KeepsObjects l l) (λ f. record { same = λ q is. refl; left = shows-more l l (λ c h. h) }) refl

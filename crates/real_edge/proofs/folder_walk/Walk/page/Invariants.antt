@@ -2,6 +2,8 @@ use Rattle.std.proofs.Common.{◌≡◌, ◌≤◌, ◌++◌, length}
 use Rattle.std.specs.Prelude.{IfSome}
 use Rattle.real_edge.specs.Disk.{Leaves}
 use Rattle.real_edge.specs.Walk.{IsCovering, left_of}
+use Rattle.real_edge.proofs.Calls.{page_given}
+use Rattle.real_edge.proofs.Ordered.{covers_popped}
 use Rattle.real_edge.proofs.folder_walk.Walk.page.Given as goal
 
 abbrev pub invariant-loop : goal.invariant-loop
