@@ -1,6 +1,6 @@
 -- The calls of a store over its disk.
 use Rattle.std.proofs.Common.{◌≡◌, ◌≢◌, ◌⊎◌, ℕ, ◌≤◌, Bool, true, false, List, [], ◌∷◌, ◌++◌, length, take, Option, Some, None, Result, Ok, Err, refl, sym, ap, subst, ◌∙◌, inl, inr, arith}
-use Rattle.std.specs.Prelude.{⊤, IsSome, IfSome, OnOk}
+use Rattle.std.specs.Prelude.{⊤, IsSome, IfSome, IfOk, OnOk}
 use Rattle.std.specs.FinMap as finmap
 use Rattle.std.specs.declared.alloc.AllocError.{AllocError}
 use Rattle.std.proofs.lemmas.List.{append-nil, take_at, take_all}
@@ -72,6 +72,12 @@ where_taken_unsynced a b c d name t l m n p u v w x h k s =
     (subst (λ (y : Option Files). Where y c (Takes name (Err t) l p)) h.same
      (where_map b c {P = Removes name (Ok tt) m n} {Q = Takes name (Err t) l p}
       (λ o f r. taken_unsynced name t l n p o f s.left (removes_more name (Ok tt) l m n o f h.left r)) k))
+
+-- the sync behind a removal, whatever it answers
+pub where_out : (a b c d : Option Files) (name : List ℕ) (r : Result (Unit {0}) Trouble) (l m n p : Files → Type 0) (u v w x : List ℕ → Type 0) → Leaves a b l m u v → Where b c (Removes name (Ok tt) m n) → Leaves c d n p w x
+    → IfOk r (λ _. IfSome c (λ f. IsSettled name w f p)) → Where a d (Takes name r l p)
+where_out a b c d name (Ok done) l m n p u v w x h k s settled = where_taken a b c d name l m n p u v w x h k s settled
+where_out a b c d name (Err t) l m n p u v w x h k s settled = where_taken_unsynced a b c d name t l m n p u v w x h k s
 
 taken_answer : (name : List ℕ) (r : Result (Unit {0}) Trouble) (l m : Files → Type 0) → IsTaken name r l m → IsTaken name (delete_answer r) l m
 taken_answer name (Ok done) l m h = record { gone = h.gone; keeps = h.keeps }
