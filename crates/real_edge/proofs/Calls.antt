@@ -62,16 +62,16 @@ pub where_taken : (a b c d : Option Files) (name : List ℕ) (l m n p : Files �
 where_taken a b c d name l m n p u v w x h k s settled =
     subst (λ (y : Option Files). Where a y (Takes name (Ok tt) l p)) (sym s.same)
     (subst (λ (y : Option Files). Where y c (Takes name (Ok tt) l p)) h.same
-     (where_beside b c {P = Removes name (Ok tt) m n} {R = Takes name (Ok tt) l p} {Q = λ f. IsSettled name w f p}
-      (λ o f q r. taken_synced name w l n p o f q s.left (removes_more name (Ok tt) l m n o f h.left r)) settled k))
+    (where_beside b c {P = Removes name (Ok tt) m n} {R = Takes name (Ok tt) l p} {Q = λ f. IsSettled name w f p}
+    (λ o f q r. taken_synced name w l n p o f q s.left (removes_more name (Ok tt) l m n o f h.left r)) settled k))
 
 pub where_taken_unsynced : (a b c d : Option Files) (name : List ℕ) (t : Trouble) (l m n p : Files → Type 0) (u v w x : List ℕ → Type 0) → Leaves a b l m u v → Where b c (Removes name (Ok tt) m n) → Leaves c d n p w x
     → Where a d (Takes name (Err t) l p)
 where_taken_unsynced a b c d name t l m n p u v w x h k s =
     subst (λ (y : Option Files). Where a y (Takes name (Err t) l p)) (sym s.same)
     (subst (λ (y : Option Files). Where y c (Takes name (Err t) l p)) h.same
-     (where_map b c {P = Removes name (Ok tt) m n} {Q = Takes name (Err t) l p}
-      (λ o f r. taken_unsynced name t l n p o f s.left (removes_more name (Ok tt) l m n o f h.left r)) k))
+    (where_map b c {P = Removes name (Ok tt) m n} {Q = Takes name (Err t) l p}
+    (λ o f r. taken_unsynced name t l n p o f s.left (removes_more name (Ok tt) l m n o f h.left r)) k))
 
 -- the sync behind a removal, whatever it answers
 pub where_out : (a b c d : Option Files) (name : List ℕ) (r : Result (Unit {0}) Trouble) (l m n p : Files → Type 0) (u v w x : List ℕ → Type 0) → Leaves a b l m u v → Where b c (Removes name (Ok tt) m n) → Leaves c d n p w x

@@ -51,13 +51,17 @@ fronts (x ∷ a) (y ∷ b) q p r = by (fronts a b (a ++ p.0) (p.0, refl) (r.0, t
   where
     heads_tails : (x ∷ (a ++ p.0)) ≡ (y ∷ (b ++ r.0))
     heads_tails = sym p.1 ∙ r.1
+
     tails : a ++ p.0 ≡ b ++ r.0
     tails = ap (drop 1) heads_tails
+
     head_of : List ℕ → ℕ
     head_of [] = 0
     head_of (z ∷ zs) = z
+
     heads : x ≡ y
     heads = ap head_of heads_tails
+
     by : Begins a b ⊎ Begins b a → Begins (x ∷ a) (y ∷ b) ⊎ Begins (y ∷ b) (x ∷ a)
     by (inl h) = inl (h.0, (λ i. sym heads i ∷ h.1 i))
     by (inr h) = inr (h.0, (λ i. heads i ∷ h.1 i))
@@ -87,6 +91,7 @@ before_front (x ∷ a) (y ∷ f) rest less = by (nat_cmp x y) refl
       where
         same : x ≡ y
         same = nat_cmp-IsAntisymmetric x y e
+
         more : Begins f a ⊎ (is_lt (slice_cmp nat_cmp a f) ≡ true) → Begins (y ∷ f) (x ∷ a) ⊎ (is_lt (slice_cmp nat_cmp (x ∷ a) (y ∷ f)) ≡ true)
         more (inl h) = inl (h.0, (λ i. same i ∷ h.1 i))
         more (inr h) = inr (ap (λ r. is_lt (ordering_then r (slice_cmp nat_cmp a f))) e ∙ h)

@@ -38,6 +38,7 @@ turned m n s name x is same c left = (d, before, record { others = λ q ne. sym 
   where
     d : Files
     d = restored c name (finmap.get s name)
+
     before : IsLeft m s d
     before q = elim (cases_same q name) [
       | inl e ↦ inr (ap (finmap.get d) e ∙ here c name (finmap.get s name) ∙ ap (finmap.get s) (sym e))
@@ -46,6 +47,7 @@ turned m n s name x is same c left = (d, before, record { others = λ q ne. sym 
         | inr b ↦ inr (others c name (finmap.get s name) q ne ∙ b)
       ]
     ]
+
     now : (finmap.get c name ≡ finmap.get d name) ⊎ (finmap.get c name ≡ x)
     now = elim (left name) [
       | inl a ↦ inr (a ∙ is)

@@ -89,8 +89,8 @@ keys-objects m =
     let in_order : T (finmap.is_sorted (slice_cmp nat_cmp) kept) = is_sorted-where_key (slice_cmp nat_cmp) is_object es (entries_sorted m) in
     let is : objects_of m ≡ finmap.from_sorted kept =
     same _ _ (λ q. get_object m q ∙ ap (λ x. cond (is_object q) x None) (get-entries m q)
-        ∙ sym (find-where_key (slice_cmp nat_cmp) is_object q (alike is_object q) es)
-        ∙ sym (get-from_sorted (slice_cmp nat_cmp) kept q in_order)) in
+    ∙ sym (find-where_key (slice_cmp nat_cmp) is_object q (alike is_object q) es)
+    ∙ sym (get-from_sorted (slice_cmp nat_cmp) kept q in_order)) in
     ap finmap.keys is ∙ ap firsts (entries-from_sorted (slice_cmp nat_cmp) kept in_order) ∙ kept_firsts is_object es
 
 -- ---- names are the same or not
@@ -104,6 +104,7 @@ cases_same q k = by (eq_by_cmp (slice_cmp nat_cmp) q k) refl
       where
         differs : false ≡ true → ⊥
         differs e = cc
+
         itself : (x : List ℕ) → eq_by_cmp (slice_cmp nat_cmp) x x ≡ true
         itself x = ap is_eq (ties_itself x)
 

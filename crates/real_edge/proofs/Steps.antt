@@ -95,6 +95,7 @@ removed name r before after o n not h = by r h
       same = λ q is. ap (λ (f : Files). finmap.get f q) e ∙ get_left o name q (apart q name is not);
       left = shows-turn name None before after not t;
     }
+
     by : (rr : Result (Unit {0}) Trouble) → Removes name rr before after o n → KeepsObjects before after o n
     by (Ok done) k = took k.0 k.1
     by (Err t) k = elim k.0 [
@@ -275,8 +276,8 @@ where_both a b d e beside name content r rr l0 l1 l2 l3 is not may h k t =
     where_then a d e {P = Linked name content r l0 l2} {Q = Removes beside rr l2 l3} {R = Linked name content (both_of r rr) l0 l3}
     (λ o m n p q. linked_both name content r rr l0 l3 o n (linked_still name content r l0 l2 l3 o m n is p (removed beside rr l2 l3 m n not q)))
     (where_with a d {P = λ o n. l0 o → Linked name content r l0 l2 o n} {R = Linked name content r l0 l2} {Q = λ f. l0 f} (λ o n q p. p q) may
-     (where_then a b d {P = Made beside content l0 l1} {Q = Links beside name r l1 l2} {R = λ o n. l0 o → Linked name content r l0 l2 o n}
-      (λ o m n p q may_o. linked beside name content l0 l1 l2 o m n is may_o p r q) h k))
+    (where_then a b d {P = Made beside content l0 l1} {Q = Links beside name r l1 l2} {R = λ o n. l0 o → Linked name content r l0 l2 o n}
+    (λ o m n p q may_o. linked beside name content l0 l1 l2 o m n is may_o p r q) h k))
     t
 
 -- the sync behind a link
@@ -285,14 +286,14 @@ pub where_synced : (a e s : Option Files) (name content : List ℕ) (r : Result 
 where_synced a e s name content r l m n way way' is on h leaves settled =
     subst (λ (x : Option Files). Where a x (Places name content (Ok tt) l n)) (sym leaves.same)
     (where_beside a e {P = Linked name content r l m} {R = Places name content (Ok tt) l n} {Q = λ f. IsSettled name way f n}
-     (λ o x q p. synced name content way l m n o x on q leaves.left (subst (λ (y : Result (Unit {0}) MakeError). Linked name content y l m o x) is p)) settled h)
+    (λ o x q p. synced name content way l m n o x on q leaves.left (subst (λ (y : Result (Unit {0}) MakeError). Linked name content y l m o x) is p)) settled h)
 
 pub where_unsynced : (a e s : Option Files) (name content : List ℕ) (t : Trouble) (r : Result (Unit {0}) MakeError) (l m n : Files → Type 0) (way way' : List ℕ → Type 0)
     → r ≡ Ok tt → Where a e (Linked name content r l m) → Leaves e s m n way way' → Where a s (Places name content (Err (makes.Failed t)) l n)
 where_unsynced a e s name content t r l m n way way' is h leaves =
     subst (λ (x : Option Files). Where a x (Places name content (Err (makes.Failed t)) l n)) (sym leaves.same)
     (where_map a e {P = Linked name content r l m} {Q = Places name content (Err (makes.Failed t)) l n}
-     (λ o x p. unsynced name content t l m n o x leaves.left (subst (λ (y : Result (Unit {0}) MakeError). Linked name content y l m o x) is p)) h)
+    (λ o x p. unsynced name content t l m n o x leaves.left (subst (λ (y : Result (Unit {0}) MakeError). Linked name content y l m o x) is p)) h)
 
 pub where_ended : (a e : Option Files) (name content : List ℕ) (x : MakeError) (r : Result (Unit {0}) MakeError) (l m : Files → Type 0) → r ≡ Err x → Where a e (Linked name content r l m) → Where a e (Places name content (Err x) l m)
 where_ended a e name content x r l m is h =

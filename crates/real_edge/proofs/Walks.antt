@@ -91,6 +91,7 @@ below_any k w (f ∷ fs) b any = by (eq_by_cmp (slice_cmp nat_cmp) w f.0) refl
   where
     two : (is_lt (slice_cmp nat_cmp k f.0) ≡ true) × (below_all (slice_cmp nat_cmp) k fs ≡ true)
     two = and_parts (is_lt (slice_cmp nat_cmp k f.0)) (below_all (slice_cmp nat_cmp) k fs) b
+
     by : (c : Bool) → eq_by_cmp (slice_cmp nat_cmp) w f.0 ≡ c → is_lt (slice_cmp nat_cmp k w) ≡ true
     by true t = subst (λ (x : List ℕ). is_lt (slice_cmp nat_cmp k x) ≡ true) (sym (tied w f.0 t)) two.0
     by false t = below_any k w fs two.1 (sym (ap (λ c. c || any_of w fs) t) ∙ any)
@@ -112,6 +113,7 @@ first_kept p r w pw not_r behind (e ∷ es) before s any = by (eq_by_cmp (slice_
   where
     parts : (below_all (slice_cmp nat_cmp) e.0 es ≡ true) × (is_sorted (slice_cmp nat_cmp) es ≡ true)
     parts = and_parts (below_all (slice_cmp nat_cmp) e.0 es) (is_sorted (slice_cmp nat_cmp) es) (from_T _ s)
+
     by : (b : Bool) → eq_by_cmp (slice_cmp nat_cmp) w e.0 ≡ b → filter p (firsts (e ∷ es)) ≡ w ∷ filter r (firsts (e ∷ es))
     by true t =
         let same : w ≡ e.0 = tied w e.0 t in
@@ -173,6 +175,7 @@ is_among files q any = by (is_object q) refl
   where
     some : is_some (finmap.get (objects_of files) q) ≡ true
     some = contains_key-keys (objects_of files) q ∙ any
+
     by : (b : Bool) → is_object q ≡ b → IsSome (finmap.get files q) × (is_object q ≡ true)
     by true e = (some_from (finmap.get files q) (sym (ap is_some (get_here files q e)) ∙ some), e)
     by false e = absurd (true_false (sym some ∙ ap is_some (get_none files q e)))
@@ -188,8 +191,10 @@ given prefix after files w is first =
   where
     wanted : (starts_with nat_eq w prefix ≡ true) × (is_behind after w ≡ true)
     wanted = and_parts (starts_with nat_eq w prefix) (is_behind after w) is.wanted
+
     behind : (x : List ℕ) → is_lt (slice_cmp nat_cmp w x) ≡ true → is_wanted prefix after x ≡ is_wanted prefix (Some w) x
     behind x less = ap (λ b. starts_with nat_eq x prefix && b) (behind_both after w x wanted.1 less ∙ sym less)
+
     before : (x : List ℕ) → any_of x (finmap.entries (objects_of files)) ≡ true → is_lt (slice_cmp nat_cmp x w) ≡ true → (is_wanted prefix after x ≡ false) × (is_wanted prefix (Some w) x ≡ false)
     before x any less = (by (is_wanted prefix after x) refl, and_right (starts_with nat_eq x prefix) (is_lt (slice_cmp nat_cmp w x)) (asymmetric x w less))
       where
@@ -387,8 +392,8 @@ take_given t prefix after n ws not key wanted first covers looks = if_both t one
     one f c l = (
       given prefix after f n.key (record { stands = l.0; object = object_from_key n.key key; wanted = wanted }) (all_behind prefix after f n ws first c),
       passed prefix after (Some n.key) f n ws ws (sought_before prefix after f n.key (is_behind_wanted prefix after n.key wanted))
-      (λ q is led. absurd (no_file prefix (Some n.key) f n.key (not_again prefix f n.key) l.1 q is (subst (λ (b : Bool). LeadsBy b n.key q) not led)))
-      (λ w h. h) c,
+          (λ q is led. absurd (no_file prefix (Some n.key) f n.key (not_again prefix f n.key) l.1 q is (subst (λ (b : Bool). LeadsBy b n.key q) not led)))
+          (λ w h. h) c,
     )
 
 -- it led to nothing that is sought
@@ -443,4 +448,3 @@ slash_front name n some within is =
 
 pub front_begins : (name : List ℕ) (n : ℕ) → Begins (take n name) name
 front_begins name n = (drop n name, parted n name)
-

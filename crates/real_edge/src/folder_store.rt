@@ -12,8 +12,8 @@ use crate::faults::{Faults, Reason, Trouble};
 use crate::folder_path::FolderPath;
 use crate::folder_walk::Walk;
 use crate::host_disk::HostDisk;
-use crate::object_making::Writer;
 use crate::object_calls::{Page, keys_of, make, piece_of, take_out};
+use crate::object_making::Writer;
 use crate::writer_lock::WriterLock;
 use byte_fields::Failed;
 use object_store::{CreateError, GetError, Key, Keys, ListError, ObjectStore, Piece, given_behind};
@@ -209,7 +209,15 @@ impl<D: Disk> ObjectStore for FolderStore<D> {
         ensures disk { IfSome (D.told self.old.disk) (λ _. KeepsSafe (D.may_leave self.old.disk) (D.may_leave self.new.disk)) }
     {
         let walk = self.walk.take();
-        match keys_of(&mut self.disk, alloc, &mut self.writer, walk, prefix, after, max) {
+        match keys_of(
+            &mut self.disk,
+            alloc,
+            &mut self.writer,
+            walk,
+            prefix,
+            after,
+            max,
+        ) {
             Ok(page) => {
                 let Page { keys, walk } = page;
                 self.walk = walk;

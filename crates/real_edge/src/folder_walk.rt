@@ -10,8 +10,8 @@ ghost use Rattle.real_edge.specs.Walk.{Covers, CoversWith, IsCovering, Meets, Me
 ghost use Rattle.real_edge.specs.Folders.{folder_key};
 
 use crate::disk::{Disk, DiskError, Standing};
-use crate::folder_read::FolderRead;
 use crate::faults::Trouble;
+use crate::folder_read::FolderRead;
 use crate::object_names::{folder_len, is_object, joined};
 use crate::waiting::{Wait, Waiting};
 use byte_fields::{Bytes, List};
@@ -95,12 +95,7 @@ impl Walk {
     }
 
     // What is worth a look of the names in a folder.
-    fn found(
-        &self,
-        alloc: Global,
-        folder: &[u8],
-        names: &[Bytes],
-    ) -> Result<List<Wait>, AllocError>
+    fn found(&self, alloc: Global, folder: &[u8], names: &[Bytes]) -> Result<List<Wait>, AllocError>
         ensures { IfOk result (λ found. (name : Items ℕ) → Contains names.now name → Meets self.now.prefix self.now.after (folder.now ++ name) found) }
     {
         let mut room = Vec::new(alloc);
@@ -152,12 +147,7 @@ impl Walk {
     }
 
     // Looks at a name, or reads a folder. Whether it is a file that is sought.
-    fn take<D: Disk>(
-        &mut self,
-        disk: &mut D,
-        alloc: Global,
-        next: &Wait,
-    ) -> Result<bool, DiskError>
+    fn take<D: Disk>(&mut self, disk: &mut D, alloc: Global, next: &Wait) -> Result<bool, DiskError>
         requires first { IsFirst next.now.key self.old.waiting }
         requires covers { IfSome (D.told disk.old) (Covers self.old.prefix self.old.after (next.now ∷ self.old.waiting)) }
         ensures leaves { Leaves (D.told disk.old) (D.told disk.new) (D.may_leave disk.old) (D.may_leave disk.new) (D.has_way disk.old) (D.has_way disk.new) }

@@ -36,11 +36,7 @@ fn clear_name<D: Disk>(
 }
 
 // The names in a folder. None where it can't be read.
-fn names_of<D: Disk>(
-    disk: &mut D,
-    alloc: Global,
-    folder: &[u8],
-) -> Result<List<Bytes>, AllocError>
+fn names_of<D: Disk>(disk: &mut D, alloc: Global, folder: &[u8]) -> Result<List<Bytes>, AllocError>
     ensures { Where (D.told disk.old) (D.told disk.new) (KeepsObjects (D.may_leave disk.old) (D.may_leave disk.new)) }
 {
     match disk.names(alloc, folder) {

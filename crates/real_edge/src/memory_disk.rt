@@ -146,7 +146,10 @@ impl Disk for MemoryDisk {
         }
         let content = match self.files.copy_of(alloc, from) {
             Ok(Some(content)) => content,
-            Ok(None) => return Err(MakeError::Failed(Trouble::of("linking", "no file stands there"))),
+            Ok(None) => return Err(MakeError::Failed(Trouble::of(
+                "linking",
+                "no file stands there",
+            ))),
             Err(refused) => return Err(MakeError::Memory(refused)),
         };
         match self.files.add(alloc, to, content.as_slice()) {

@@ -23,11 +23,7 @@ pub struct Page {
 }
 
 // A writer's disk is its own, and has no files beside of others.
-fn begin<D: Disk>(
-    disk: &mut D,
-    alloc: Global,
-    writer: &mut Option<Writer>,
-) -> Result<(), DiskError>
+fn begin<D: Disk>(disk: &mut D, alloc: Global, writer: &mut Option<Writer>) -> Result<(), DiskError>
     ensures { Where (D.told disk.old) (D.told disk.new) (KeepsObjects (D.may_leave disk.old) (D.may_leave disk.new)) }
 {
     disk.claim()?;

@@ -1,7 +1,7 @@
 //! The lock of a folder's one writer.
 
-use crate::faults::{Trouble, tried};
 use crate::disk::Standing;
+use crate::faults::{Trouble, tried};
 use crate::folder_path::standing_at;
 use std::fs::{File, Files, OpenFile, OpenOptions, TryLockError};
 use std::io::{self, ErrorKind};

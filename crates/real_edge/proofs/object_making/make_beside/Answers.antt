@@ -28,7 +28,7 @@ returns-in-Err-Failed-clause-failed g c =
 pub loop-preserved : goal.loop-preserved
 loop-preserved g c = record {
   keeps = where_unchanged (g.D.Disk.told c.args.disk.now) (g.D.Disk.told c.loop.disk) (g.D.Disk.told c.create_new.new.self)
-    (g.D.Disk.may_leave c.args.disk.now) (g.D.Disk.may_leave c.loop.disk) (g.D.Disk.may_leave c.create_new.new.self) c.loop.invariant.keeps
-    (rw c.in-Err-Exists.field-0-is at c.in-Err-Exists.ensures.step);
+      (g.D.Disk.may_leave c.args.disk.now) (g.D.Disk.may_leave c.loop.disk) (g.D.Disk.may_leave c.create_new.new.self) c.loop.invariant.keeps
+      (rw c.in-Err-Exists.field-0-is at c.in-Err-Exists.ensures.step);
   ways = λ q on. c.create_new.ensures.ways q (c.loop.invariant.ways q on);
 }

@@ -7,9 +7,9 @@ returns-in-Ok-Nothing g c =
     where_placed (g.D.Disk.told c.args.disk.now) (g.D.Disk.told c.look.new.self) (g.D.Disk.told c.place_new.new.disk) c.args.name.now c.args.content.now c.place_new.result
     (g.D.Disk.may_leave c.args.disk.now) (g.D.Disk.may_leave c.look.new.self) (g.D.Disk.may_leave c.place_new.new.disk)
     (where_left (g.D.Disk.told c.args.disk.now) (g.D.Disk.told c.look.new.self) (g.D.Disk.may_leave c.args.disk.now) (g.D.Disk.may_leave c.look.new.self) (g.D.Disk.has_way c.args.disk.now) (g.D.Disk.has_way c.look.new.self)
-     (leaves_then (g.D.Disk.told c.args.disk.now) (g.D.Disk.told c.make_way.new.self) (g.D.Disk.told c.look.new.self)
-      (g.D.Disk.may_leave c.args.disk.now) (g.D.Disk.may_leave c.make_way.new.self) (g.D.Disk.may_leave c.look.new.self)
-      (g.D.Disk.has_way c.args.disk.now) (g.D.Disk.has_way c.make_way.new.self) (g.D.Disk.has_way c.look.new.self) c.make_way.ensures.leaves c.look.ensures.leaves))
+    (leaves_then (g.D.Disk.told c.args.disk.now) (g.D.Disk.told c.make_way.new.self) (g.D.Disk.told c.look.new.self)
+    (g.D.Disk.may_leave c.args.disk.now) (g.D.Disk.may_leave c.make_way.new.self) (g.D.Disk.may_leave c.look.new.self)
+    (g.D.Disk.has_way c.args.disk.now) (g.D.Disk.has_way c.make_way.new.self) (g.D.Disk.has_way c.look.new.self) c.make_way.ensures.leaves c.look.ensures.leaves))
     c.place_new.ensures
 
 pub returns-in-Ok-PlainFile : goal.returns-in-Ok-PlainFile
