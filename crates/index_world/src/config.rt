@@ -10,6 +10,7 @@ ghost use Rattle.index_world.specs.Created.{IsBadText};
 ghost use Rattle.meta_journal.specs.declared.entry.Act.TheVariants as acts;
 ghost use Rattle.meta_store.specs.Readings as meta;
 ghost use Rattle.meta_store.specs.Said.{sought_in};
+ghost use Rattle.meta_store.specs.declared.config.Config.{Config};
 ghost use Rattle.query_ast.specs.Meaning.{is_text};
 ghost use Rattle.query_ast.specs.Sought.{view};
 ghost use Rattle.query_reader.specs.Resolve.{Gives, Refuses};
@@ -158,7 +159,6 @@ fn unless_short(read: Result<Query, QueryError>) -> Result<Result<Query, QueryEr
 }
 
 // Before there is a configuration no task is read.
-#[inline(never)]
 fn query_said(
     alloc: Global,
     config: &Option<Config>,
@@ -173,8 +173,37 @@ fn query_said(
     }
 }
 
+// What is read of a Create. A call of its own, and so is that of a task, so that `reading_of` doesn't clear the places of a
+// configuration and of a query for an entry that has neither.
+#[inline(never)]
+fn reading_of_create(alloc: Global, text: &[u8]) -> Result<Reading, AllocError>
+    ensures { IfOk result (λ reading. (so_far : Option Config) → reading ≡ meta.reading_of spec.reads so_far (acts.Create text.now)) }
+{
+    let config = settings_of(alloc, text)?;
+    Ok(Reading {
+        config,
+        query: Err(QueryError::Syntax { at: 0 }),
+    })
+}
+
+#[inline(never)]
+fn reading_of_task(
+    alloc: Global,
+    config: &Option<Config>,
+    text: &[u8],
+    fields: &[Text],
+) -> Result<Reading, AllocError>
+    ensures { IfOk result (λ reading. (opstamp : ℕ) (times : TimeRange) → reading ≡ meta.reading_of spec.reads config.now (acts.Task opstamp text.now fields.now times)) }
+{
+    let query = query_said(alloc, config, text, fields)?;
+    Ok(Reading {
+        config: Err(ConfigError::NotToml),
+        query,
+    })
+}
+
 /// What the readers of texts say of an entry, under the configuration so far. A call of its own, so that who goes through
-/// many entries doesn't clear and copy the places of a configuration and of a query for each.
+/// many entries doesn't clear and copy the places of what is read for each.
 #[inline(never)]
 pub fn reading_of(
     alloc: Global,
@@ -184,19 +213,9 @@ pub fn reading_of(
     ensures { IfOk result (λ reading. reading ≡ meta.reading_of spec.reads config.now entry.now.act) }
 {
     match &entry.act {
-        Act::Create { config } => {
-            let config = settings_of(alloc, config.as_slice())?;
-            Ok(Reading {
-                config,
-                query: Err(QueryError::Syntax { at: 0 }),
-            })
-        }
+        Act::Create { config } => reading_of_create(alloc, config.as_slice()),
         Act::Task { text, fields, .. } => {
-            let query = query_said(alloc, config, text.as_slice(), fields.as_slice())?;
-            Ok(Reading {
-                config: Err(ConfigError::NotToml),
-                query,
-            })
+            reading_of_task(alloc, config, text.as_slice(), fields.as_slice())
         }
         _ => Ok(Reading {
             config: Err(ConfigError::NotToml),
