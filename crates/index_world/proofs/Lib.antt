@@ -63,3 +63,5 @@ pub mod SweepPages
 pub mod Swept
 pub mod SweepLists
 pub mod Slices
+pub mod Ran
+pub mod CallCauses

@@ -2,7 +2,9 @@
 use Rattle.std.specs.Prelude.{◌≡◌, ◌⊎◌, ◌+◌, ◌≤◌, ℕ, ◌<◌, ◌==◌, ◌&&◌, ◌||◌, Bool, true, false, not, List, [], ◌∷◌, length, map, find, Contains, Option, Some, None, is_some, Result, Ok, Err, IfErr, IfOk, IfSome, IsErr, IsOk, IsSome, ⊤}
 use Rattle.std.specs.FinMap.{get}
 use Rattle.std.specs.List.{AllByRecursion}
+use Rattle.std.specs.declared.alloc.AllocError.{AllocError}
 use Rattle.byte_fields.specs.declared.calls.Failed.{Failed}
+use Rattle.delete_tasks.specs.Removes.{DeleteTask}
 use Rattle.index_config.specs.declared.config.IndexConfig.{IndexConfig}
 use Rattle.meta_journal.specs.Journal.{IsCorrupt}
 use Rattle.meta_journal.specs.Places.{meta_key, split_key, numbered, HasEntry, Stand}
@@ -30,6 +32,7 @@ use Rattle.index_world.specs.Config.{reads}
 use Rattle.index_world.specs.Core.{is_in}
 use Rattle.index_world.specs.Configuration.{config_or, index_of}
 use Rattle.index_world.specs.Index.{max_entries}
+use Rattle.index_world.specs.PlanTasks.{plan_tasks, tasks_upto}
 use Rattle.index_world.specs.Taking.{IsFaultBetween}
 use Rattle.index_world.specs.World.{Keeping}
 use Rattle.index_world.specs.declared.tokens.DeleteAsk.{DeleteAsk}
@@ -53,6 +56,7 @@ pub data Answered : Type 0 where
   raise_answered : (number upto : ℕ) → Result ℕ WorldError → Answered
   task_answered : (ask : DeleteAsk) → Result Receipt WorldError → Answered
   plan_answered : Choice → Result Plan WorldError → Answered
+  tasks_answered : (upto : ℕ) → Result (List DeleteTask) AllocError → Answered
   mark_stale_answered : Result ℕ WorldError → Answered
   doom_answered : Result (Option ℕ) WorldError → Answered
   remove_answered : Result ℕ WorldError → Answered
@@ -177,6 +181,7 @@ pub record IsPlanOf (choice : Choice) (plan : Plan) (world : Keeping) : Type 0 w
   pub moment : plan.moment ≡ world.moment
   pub upto : plan.upto ≡ world.meta.last_opstamp
   pub rows : plan.rows ≡ map (planned_as choice) (rows_for world.meta.config choice world.moment world.meta.last_opstamp world.meta.rows)
+  pub tasks : plan.tasks ≡ plan_tasks choice plan.upto plan.rows world.meta.tasks
   pub settled : world.unsure ≡ false
 
 abbrev pub SaysPlanned : Choice → Result Plan WorldError → Keeping → State → Type 0
@@ -294,6 +299,7 @@ IsAnswer (replace_answered number replaced upto result) old new = Tells result o
 IsAnswer (raise_answered number upto result) old new = Tells result old new (λ was now. SaysRevision (raise_in number upto) result new now) × Followed old new
 IsAnswer (task_answered ask result) old new = Tells result old new (λ was now. SaysAdded ask result new now) × Followed old new
 IsAnswer (plan_answered choice result) old new = Tells result old new (λ was now. SaysPlanned choice result new now) × Followed old new
+IsAnswer (tasks_answered upto result) old new = (new ≡ old) × IfOk result (λ tasks. tasks ≡ tasks_upto upto old.meta.tasks)
 IsAnswer (mark_stale_answered result) old new = Tells result old new (λ was now. SaysRows (stale_in new) MarkStaged result new now) × Followed old new
 IsAnswer (remove_answered result) old new = Tells result old new (λ was now. SaysRows (doomed_in new) Remove result new now) × Followed old new
 IsAnswer (doom_answered result) old new = (new.meta ≡ old.meta) × Tells result old new (λ was now. SaysDoomed result old new was now)

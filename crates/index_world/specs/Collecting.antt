@@ -149,9 +149,14 @@ abbrev pub sweep_if : Bool → Call → ℕ → Core → Gives Trouble Bool
 sweep_if false call number core = gives (Ok false) core
 sweep_if true call number core = answers true (file_deleted call (split_key number) core)
 
+-- without memory nothing is done: a delete needs none, but noting it may
+abbrev pub swept_unless : Bool → ℕ → Fate → Core → Gives Trouble Bool
+swept_unless true number fate core = gives (Err no_memory) core
+swept_unless false number fate core = sweep_if (is_swept core number) fate.first number core
+
 -- The file of such a number is deleted; of another one nothing is done. It neither asks the clock nor settles.
 abbrev pub sweep_call : ℕ → Fate → Core → Gives Trouble Bool
-sweep_call number fate core = sweep_if (is_swept core number) fate.first number core
+sweep_call number fate core = swept_unless fate.unasked number fate core
 
 -- ---- what it looks for
 

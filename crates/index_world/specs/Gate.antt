@@ -1,5 +1,7 @@
 -- What the calls of a gate to a world say.
-use Rattle.std.specs.Prelude.{◌≡◌, ◌+◌, ◌-◌, ◌^◌, ◌<◌, true, ℕ, List, length, map, min, Option, Some, Result, Ok, Err, ⊤}
+use Rattle.std.specs.Prelude.{◌≡◌, ◌+◌, ◌-◌, ◌^◌, ◌<◌, true, ℕ, List, [], length, map, min, Option, Some, Result, Ok, Err, IfOk, ⊤}
+use Rattle.std.specs.declared.alloc.AllocError.{AllocError}
+use Rattle.delete_tasks.specs.Removes.{DeleteTask}
 use Rattle.index_config.specs.declared.config.IndexConfig.{IndexConfig}
 use Rattle.object_store.specs.Store.{State, IsPieceOf}
 use Rattle.meta_journal.specs.Places.{split_key}
@@ -15,6 +17,7 @@ use Rattle.source_log.specs.Log.{Log}
 use Rattle.split_states.specs.declared.facts.RowFacts.{RowFacts}
 use Rattle.index_world.specs.Config.{reads}
 use Rattle.meta_store.specs.Planning.{rows_for, planned_as}
+use Rattle.meta_store.specs.Ledgers.{ledger}
 use Rattle.meta_store.specs.Readings.{config_of}
 use Rattle.meta_store.specs.declared.planning.Choice.{Choice}
 use Rattle.index_world.specs.declared.tokens.DeleteAsk.{DeleteAsk}
@@ -27,6 +30,7 @@ use Rattle.index_world.specs.declared.world_error.WorldError.{WorldError}
 use Rattle.index_world.specs.declared.world_error.WorldError.TheVariants as errors
 use Rattle.index_world.specs.Core.{Core, file_at, journal_of, IsConfigured, IsUnusedIn, IsUploadedIn, HasStagedIn}
 use Rattle.index_world.specs.Index.{has_staged, IsMade}
+use Rattle.index_world.specs.PlanTasks.{plan_tasks, tasks_upto}
 use Rattle.index_world.specs.Calls.{Fate, Grace, Gives, gives, Trouble, faulted, no_memory, store_fault, is_foreign, is_full, is_expired, Unmade, refused, troubled, Unfetched, absent, hindered, appended}
 use Rattle.index_world.specs.CallsMade.{Ask, CallMade, IsRecorded, IsShort}
 use Rattle.index_world.specs.World.{IsWorld, IsTimely, GoesOn}
@@ -208,6 +212,23 @@ pub record IsPlan (choice : Choice) (plan : Plan) (core : Core) : Type 0 where
   pub moment : plan.moment ≡ core.moment
   pub upto : plan.upto ≡ last_opstamp (history core.history)
   pub rows : plan.rows ≡ map (planned_as choice) (rows_for (config_of reads (history core.history)) choice core.moment (last_opstamp (history core.history)) (rows (history core.history)))
+  -- those that were added up to here
+  pub tasks : plan.tasks ≡ plan_tasks choice plan.upto plan.rows (ledger reads (history core.history)).tasks
+
+-- these are the tasks of the history up to an opstamp
+abbrev pub AreTasksUpto : (upto : ℕ) → List DeleteTask → Core → Type 0
+AreTasksUpto upto tasks core = tasks ≡ tasks_upto upto (ledger reads (history core.history)).tasks
+
+-- A call of a gate for tasks came to its turn behind what other actors did, `Between`, which left unused what the caller owns. There it changed
+-- nothing: the gate stands for the core that it found, whose tasks it gave, and no call is recorded.
+pub record Looked {W : Type 0} (Stands : W → Core → Log → Type 0) (Between : Core → Core → Type 0) (Owns : W → ℕ → Type 0) (Adds : W → List CallMade → W → Type 0) (upto : ℕ)
+    (result : Result (List DeleteTask) AllocError) (core : Core) (log : Log) (old new : W) : Type 0 where
+  pub mid : Core
+  pub passed : Between core mid
+  pub owned : (number : ℕ) → Owns old number → IsUnusedIn core number → IsUnusedIn mid number
+  pub stands : Stands new mid log
+  pub own : Adds old [] new
+  pub tasks : IfOk result (λ tasks. AreTasksUpto upto tasks mid)
 
 -- these are so many bytes of the number's file from a place on, and its size
 abbrev pub IsPieceGiven : (number from len : ℕ) → Piece → Core → Type 0

@@ -24,6 +24,7 @@ pub mod Onward
 pub mod Replacing
 pub mod Owning
 pub mod PlaceMade
+pub mod PlanTasks
 pub mod Saying
 pub mod CallsMade
 pub mod DirectLaws
@@ -33,3 +34,4 @@ pub mod Deleted
 pub mod Collecting
 pub mod Collected
 pub mod Swept
+pub mod Ran

@@ -7,13 +7,14 @@ use crate::steady::SteadyClock;
 use crate::tokens::{DeleteAsk, Marks, Plan, Receipt, Staged, SweepPage, Uploaded};
 use crate::world::World;
 use crate::world_error::WorldError;
+use byte_fields::List;
 use delete_tasks::Task;
 use index_config::IndexConfig;
 use meta_store::Choice;
 use object_store::{Key, ObjectStore, Piece};
 use source_checkpoint::Delta;
 use split_states::RowFacts;
-use std::alloc::Global;
+use std::alloc::{AllocError, Global};
 
 /// A world of which one actor after the other makes calls.
 pub struct Direct<S: ObjectStore, C: SteadyClock> {
@@ -61,8 +62,6 @@ impl<S: ObjectStore, C: SteadyClock> Gate for Direct<S, C> {
 
     ghost configured = { λ direct. config_kept direct.world };
 
-    ghost tasks_kept = { λ direct. direct.world.meta.tasks };
-
     ghost bytes_fetched = { λ direct. direct.fetched };
 
     ghost told = { λ direct. direct.world.told };
@@ -91,12 +90,12 @@ impl<S: ObjectStore, C: SteadyClock> Gate for Direct<S, C> {
         self.world.config()
     }
 
-    fn tasks(&self, behind: u64) -> &[Task] {
-        self.world.tasks(behind)
-    }
-
     fn fetched_bytes(&self) -> u128 {
         self.fetched
+    }
+
+    fn tasks(&mut self, alloc: Global, upto: u64) -> Result<List<Task>, AllocError> {
+        self.world.tasks(alloc, upto)
     }
 
     fn checkpoints(&mut self, alloc: Global) -> Result<Marks, WorldError> {

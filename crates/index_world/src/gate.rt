@@ -1,6 +1,6 @@
 //! What the actors of an index ask of its world.
 
-ghost use Rattle.std.specs.Prelude.{◌≡◌, ◌<◌, ◌^◌, ◌++◌, ℕ, List, [], IfOk, drop, length, slice_get, None, Some, Option};
+ghost use Rattle.std.specs.Prelude.{◌≡◌, ◌<◌, ◌^◌, ◌++◌, ℕ, List, [], IfOk, length, slice_get, None, Some, Option};
 ghost use Rattle.std.specs.Option.{option_copied};
 ghost use Rattle.doc_value.specs.Documents.{IsSchema};
 ghost use Rattle.index_config.specs.declared.config.IndexConfig as configs;
@@ -8,31 +8,28 @@ ghost use Rattle.meta_journal.specs.Spelling.{CanSpellFacts};
 ghost use Rattle.source_log.specs.Log.{Log};
 ghost use Rattle.meta_journal.specs.Places.{split_key};
 ghost use Rattle.object_store.specs.Store.{State, WhereTold};
-ghost use Rattle.index_world.specs.Answering.{Answered, marks_answered, moment_answered, stage_answered, upload_answered, publish_answered, replace_answered, raise_answered, task_answered, plan_answered, fetch_answered, mark_stale_answered, doom_answered, remove_answered, list_answered, sweep_answered};
+ghost use Rattle.index_world.specs.Answering.{Answered, marks_answered, moment_answered, stage_answered, upload_answered, publish_answered, replace_answered, raise_answered, task_answered, plan_answered, tasks_answered, fetch_answered, mark_stale_answered, doom_answered, remove_answered, list_answered, sweep_answered};
 ghost use Rattle.index_world.specs.Asked.{Behind, FetchesFile, IsFetch, IsUpload, UploadsFile};
 ghost use Rattle.index_world.specs.Calls.{asked, looked, asked_and_looked, fetched_from, upload_made};
 ghost use Rattle.index_world.specs.CallsMade.{CallMade, of_checkpoints, of_moment, of_stage, of_upload, of_publish, of_replace, of_raise, of_task, of_plan, of_fetch, of_mark_stale, of_doom, of_remove, of_sweep_list, of_sweep};
 ghost use Rattle.index_world.specs.Core.{Core, IsConfigured, IsUnusedIn, Nobody};
 ghost use Rattle.index_world.specs.Collected.{SweepsFile};
 ghost use Rattle.index_world.specs.Collecting.{doom_call, IsSweepPage, list_call, mark_stale_call, remove_call, sweep_call};
-ghost use Rattle.index_world.specs.Gate.{CanAddTask, Does, DoesWith, IsGiven, IsReceipt, raise_call, replace_call, task_call, fetched_more, grace_of, IsSoundCore, IsTrouble, IsUnmade, IsUnfetched, AreMarks, IsMoment, stage_call, WasStaged, WasUploaded, publish_call, IsPublishable, IsRevision, IsPlan, IsPieceGiven};
+ghost use Rattle.index_world.specs.Gate.{CanAddTask, Does, DoesWith, Looked, IsGiven, IsReceipt, raise_call, replace_call, task_call, fetched_more, grace_of, IsSoundCore, IsTrouble, IsUnmade, IsUnfetched, AreMarks, IsMoment, stage_call, WasStaged, WasUploaded, publish_call, IsPublishable, IsRevision, IsPlan, IsPieceGiven};
 ghost use Rattle.index_world.specs.Replacing.{IsRaisable, IsReplaceable, numbers_of};
-ghost use Rattle.index_world.specs.Config.{reads};
 ghost use Rattle.index_world.specs.World.{GoesFor};
-ghost use Rattle.delete_tasks.specs.Removes.{DeleteTask};
-ghost use Rattle.meta_store.specs.History.{history};
-ghost use Rattle.meta_store.specs.Ledgers.{ledger};
 ghost use Rattle.meta_store.specs.declared.planning.PlanRow.{PlanRow};
 
 use crate::tokens::{DeleteAsk, Marks, Plan, Receipt, Staged, SweepPage, Uploaded};
 use crate::world_error::WorldError;
+use byte_fields::List;
 use delete_tasks::Task;
 use index_config::IndexConfig;
 use meta_store::Choice;
 use object_store::{Key, Piece};
 use source_checkpoint::Delta;
 use split_states::RowFacts;
-use std::alloc::Global;
+use std::alloc::{AllocError, Global};
 
 /// The calls of the actors to one world. Each is one event.
 pub trait Gate {
@@ -58,9 +55,6 @@ pub trait Gate {
     /// The configuration that it keeps.
     ghost configured: { Self → configs.IndexConfig };
 
-    /// The tasks that it keeps.
-    ghost tasks_kept: { Self → List DeleteTask };
-
     /// How many bytes were fetched through it.
     ghost bytes_fetched: { Self → ℕ };
 
@@ -76,14 +70,18 @@ pub trait Gate {
         ensures schema { ∥ IsSchema result.now.schema ∥₁ }
         ensures step { (core : Core) (log : Log) → Stands self.now core log → IsConfigured result.now core };
 
-    /// The tasks behind this one, in their order. It is no event.
-    fn tasks(&self, behind: u64) -> &[Task]
-        ensures value { result.now ≡ drop behind (tasks_kept self.now) }
-        ensures step { (core : Core) (log : Log) → Stands self.now core log → result.now ≡ drop behind (ledger reads (history core.history)).tasks };
-
     /// How many bytes were fetched through this gate since it was made, at most 2^128 - 1. It is no event.
     fn fetched_bytes(&self) -> u128
         ensures { result ≡ bytes_fetched self.now };
+
+    /// Copies of the tasks whose opstamps are at most `upto`, in their order, at the call's turn. It is no event: nothing is settled, and
+    /// no call of the store is made.
+    fn tasks(&mut self, alloc: Global, upto: u64) -> Result<List<Task>, AllocError>
+        ensures later { since self.old self.new }
+        ensures answered { Answers self.old (tasks_answered upto result) self.new }
+        ensures same { bytes_fetched self.new ≡ bytes_fetched self.old }
+        ensures step { (core : Core) (log : Log) → Stands self.old core log →
+            Looked Stands Between Owns Adds upto result core log self.old self.new };
 
     /// The checkpoints, the last opstamp and the revision.
     fn checkpoints(&mut self, alloc: Global) -> Result<Marks, WorldError>
@@ -171,7 +169,7 @@ pub trait Gate {
             Does Stands Between Owns Adds None (of_sweep_list (option_copied behind.entry)) list_call IsTrouble (IsSweepPage (option_copied behind.entry)) result core log self.old self.new };
 
     /// Deletes the file of a number that was staged and whose row is gone, and says whether it is such a number: of another one nothing
-    /// is done, and no call of the store is made.
+    /// is done, and no call of the store is made. Nor is anything done where there is no memory to note the call.
     fn sweep_delete(&mut self, alloc: Global, number: u64) -> Result<bool, WorldError>
         ensures later { since self.old self.new }
         ensures answered { Answers self.old (sweep_answered number result) self.new }
@@ -233,7 +231,7 @@ pub trait Gate {
         ensures step { (core : Core) (log : Log) → Stands self.old core log →
             Does Stands Between Owns Adds None (of_task ask.now) (task_call ask.now) IsUnmade IsReceipt result core log self.old self.new };
 
-    /// Plans rows over the newest state.
+    /// Plans rows over the newest state. For deletes it takes along the tasks of which some may remove a document of its row.
     fn plan(&mut self, alloc: Global, choice: &Choice) -> Result<Plan, WorldError>
         ensures later { since self.old self.new }
         ensures answered { Answers self.old (plan_answered choice.now result) self.new }

@@ -12,6 +12,7 @@ mod listing;
 mod marking;
 mod next_doomed;
 mod own;
+mod plan_tasks;
 mod steady;
 mod taking;
 mod tokens;

@@ -3,7 +3,8 @@
 ghost use Rattle.std.specs.Prelude.{◌≡◌};
 ghost use Rattle.source_checkpoint.specs.Checkpoints.{checkpoint_at};
 
-use byte_fields::{Text, Texts};
+use byte_fields::{List, Text, Texts};
+use delete_tasks::Task;
 use doc_value::TimeRange;
 use meta_store::PlanRows;
 use object_store::Key;
@@ -52,13 +53,15 @@ pub struct SweepPage {
     pub next: Option<Key>,
 }
 
-/// The rows to work on, and the revision and the moment at which they were planned. `upto` is the last opstamp.
+/// The rows to work on, and the revision and the moment at which they were planned. `upto` is the last opstamp. For deletes the tasks
+/// of which some may remove a document of its row.
 #[derive(Drop)]
 pub struct Plan {
     pub revision: u64,
     pub moment: u64,
     pub upto: u64,
     pub rows: PlanRows,
+    pub tasks: List<Task>,
 }
 
 /// A delete as it is asked for: the text of its query, the paths of the fields that a clause without a field asks, and the times

@@ -1,6 +1,6 @@
 //! One life of a world: its store, journal, state and clock. Each call is one event.
 
-ghost use Rattle.std.specs.Prelude.{◌≡◌, ◌<◌, ◌^◌, ℕ, List, IfOk, IfErr, IsOk, MatchResult, None, Some, drop, length, slice_get, max, true, false, IfSome, nat_le, ◌+◌};
+ghost use Rattle.std.specs.Prelude.{◌≡◌, ◌<◌, ◌^◌, ℕ, List, IfOk, IfErr, IsOk, MatchResult, None, Some, length, slice_get, max, true, false, IfSome, nat_le, ◌+◌};
 ghost use Rattle.std.specs.Borrow.{Lends, sem};
 ghost use Rattle.std.specs.List.{AllByRecursion};
 ghost use Rattle.std.specs.Option.{option_copied};
@@ -20,7 +20,8 @@ ghost use Rattle.index_world.specs.Created.{CreatesIndex, CreatesNot, CreatesWor
 ghost use Rattle.index_config.specs.Answer.{config_answer};
 ghost use Rattle.index_world.specs.Collected.{SweepsFile};
 ghost use Rattle.index_world.specs.Collecting.{is_swept_by, doom_call, IsSweepPage, list_call, mark_stale_call, remove_call, sweep_call};
-ghost use Rattle.index_world.specs.Gate.{Acts, ActsWith, CanAddTask, IsGiven, IsReceipt, raise_call, replace_call, task_call, grace_of, IsTrouble, IsUnmade, IsUnfetched, AreMarks, IsMoment, stage_call, WasStaged, WasUploaded, publish_call, IsPublishable, IsRevision, IsPlan, IsPieceGiven};
+ghost use Rattle.index_world.specs.Gate.{Acts, ActsWith, AreTasksUpto, CanAddTask, IsGiven, IsReceipt, raise_call, replace_call, task_call, grace_of, IsTrouble, IsUnmade, IsUnfetched, AreMarks, IsMoment, stage_call, WasStaged, WasUploaded, publish_call, IsPublishable, IsRevision, IsPlan, IsPieceGiven};
+ghost use Rattle.index_world.specs.PlanTasks.{tasks_upto};
 ghost use Rattle.index_world.specs.Replacing.{IsRaisable, IsReplaceable, numbers_of};
 ghost use Rattle.index_world.specs.Loading.{LoadsWorld, LoadsNone, LoadsAnew};
 ghost use Rattle.index_world.specs.Taking.{IsFaultBetween};
@@ -33,10 +34,12 @@ use crate::life::Life;
 use crate::listing::{PAGE, is_swept, swept_page};
 use crate::next_doomed::next_doomed;
 use crate::own::Own;
+use crate::plan_tasks::{copied_upto, plan_tasks};
 use crate::steady::SteadyClock;
 use crate::taking::{create_error, get_error, list_error, open};
 use crate::tokens::{DeleteAsk, Marks, Plan, Receipt, Staged, SweepPage, Uploaded};
 use crate::world_error::WorldError;
+use byte_fields::List;
 use delete_tasks::Task;
 use index_config::IndexConfig;
 use meta_journal::{split_key, split_prefix};
@@ -207,6 +210,13 @@ impl<S: ObjectStore, C: SteadyClock> World<S, C> {
         &mut self.clock
     }
 
+    /// The count of the store's faults.
+    pub fn faults(&self) -> u64
+        ensures { result ≡ self.now.store_faults }
+    {
+        self.store.faults()
+    }
+
     /// The state.
     pub fn meta(&self) -> &Meta
         ensures { result.now.state ≡ self.now.meta }
@@ -223,13 +233,13 @@ impl<S: ObjectStore, C: SteadyClock> World<S, C> {
         self.life.config()
     }
 
-    /// The tasks behind this one, in their order.
-    pub fn tasks(&self, behind: u64) -> &[Task]
-        ensures { result.now ≡ drop behind self.now.meta.tasks }
+    /// Copies of the tasks whose opstamps are at most `upto`, in their order.
+    pub fn tasks(&self, alloc: Global, upto: u64) -> Result<List<Task>, AllocError>
+        // Over every store, sound or not: those that the world keeps.
+        ensures value { IfOk result (λ tasks. tasks ≡ tasks_upto upto self.now.meta.tasks) }
+        ensures step { (core : Core) (log : Log) → WorldStands self.now core log → IfOk result (λ tasks. AreTasksUpto upto tasks core) }
     {
-        let tasks = self.life.meta.tasks().as_slice();
-        let from = behind.min(tasks.len() as u64) as usize;
-        &tasks[from..]
+        copied_upto(alloc, self.life.meta.tasks().as_slice(), upto)
     }
 
     // Whether files that were marked behind a plan of this moment may be gone.
@@ -542,7 +552,7 @@ impl<S: ObjectStore, C: SteadyClock> World<S, C> {
         })
     }
 
-    /// Plans rows over the newest state.
+    /// Plans rows over the newest state. For deletes it takes along the tasks of which some may remove a document of its row.
     pub fn plan(&mut self, alloc: Global, choice: &Choice) -> Result<Plan, WorldError>
         ensures step { (core : Core) (log : Log) → WorldStands self.old core log →
             Acts WorldStands None asked_and_looked IsTrouble (IsPlan choice.now) result core log self.new }
@@ -553,11 +563,15 @@ impl<S: ObjectStore, C: SteadyClock> World<S, C> {
         self.ask();
         self.life.settle(alloc, &mut self.store, before)?;
         let life = &self.life;
+        let upto = life.meta.last_opstamp();
+        let rows = life.meta.plan_rows(alloc, choice, life.moment)?;
+        let all = life.meta.tasks().as_slice();
         Ok(Plan {
             revision: life.meta.revision(),
             moment: life.moment,
-            upto: life.meta.last_opstamp(),
-            rows: life.meta.plan_rows(alloc, choice, life.moment)?,
+            upto,
+            tasks: plan_tasks(alloc, choice, upto, rows.as_slice(), all)?,
+            rows,
         })
     }
 

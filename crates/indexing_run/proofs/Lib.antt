@@ -9,3 +9,5 @@ pub mod Stepping
 pub mod Reading
 pub mod Printing
 pub mod Ended
+pub mod Watching
+pub mod Indexes

@@ -6,3 +6,4 @@ pub mod Gathering
 pub mod Making
 pub mod Standing
 pub mod Ending
+pub mod IndexAll

@@ -4,8 +4,10 @@
 mod batch;
 mod documents;
 mod indexer;
+mod indexing;
 mod outcome;
 mod queue;
 
 pub use indexer::Indexer;
+pub use indexing::{IndexerEnd, index_all};
 pub use outcome::{IndexerOutcome, print_outcome};

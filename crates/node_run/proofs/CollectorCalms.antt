@@ -6,7 +6,7 @@ use Rattle.meta_journal.specs.declared.entry.Entry.{Entry}
 use Rattle.meta_store.specs.History.{history, last_number}
 use Rattle.split_states.specs.declared.rows.Row.{Row}
 use Rattle.index_world.specs.Calls.{Call, Effect, is_at_once, Fate, Gives, gives, Trouble, no_memory, Unmade, troubled, as_unmade, asked_clock, begun, calm_call, calm_fate, deleted_by, entry_of, file_deleted, made_at, made_behind, may_append, may_fail, risen, troubled_by, without_file}
-use Rattle.index_world.specs.Collecting.{Offer, answers, appended_if, doom_call, doom_next, dooming, first_offer, is_swept, list_call, making_offer, mark_stale_call, next_doomed, nothing, offer_unless, remove_call, removal_offer, stale_offer, sweep_call, sweep_if, transact_if}
+use Rattle.index_world.specs.Collecting.{Offer, answers, appended_if, doom_call, doom_next, dooming, first_offer, is_swept, list_call, making_offer, mark_stale_call, next_doomed, nothing, offer_unless, remove_call, removal_offer, stale_offer, sweep_call, sweep_if, swept_unless, transact_if}
 use Rattle.index_world.specs.Core.{Core}
 use Rattle.split_collector.specs.Outcomes.{Outcome}
 use Rattle.split_collector.specs.Steps.{CollectorLuck, Stand, Stepped, alone, called, end_at, ends_behind, first_fate, max_calls, other_fates, outcome_at, outcomes, page_by, page_given, step_collector, stepped, turned}
@@ -147,6 +147,13 @@ sweep_calms true call number core s same =
     let given = file_deleted call (split_key number) core in
     inr (ap (answers true) (deleted_calms call (split_key number) core s (sym (ap (λ c. c.store_faults) (answered_same true given.answer given.core)) ∙ same)))
 
+sweep_call_calms : (number : ℕ) (fate : Fate) (core : Core) → IsStill core → Same core (sweep_call number fate core).core → Calms no_memory (sweep_call number fate core) (sweep_call number calm_fate core)
+sweep_call_calms number fate core s same = by fate.unasked same
+  where
+    by : (unasked : Bool) → Same core (swept_unless unasked number fate core).core → Calms no_memory (swept_unless unasked number fate core) (sweep_call number calm_fate core)
+    by true same' = inl refl
+    by false same' = sweep_calms (is_swept core number) fate.first number core s same'
+
 sweep_still : (b : Bool) (number : ℕ) (core : Core) → IsStill core → IsStill (sweep_if b calm_call number core).core
 sweep_still false number core s = s
 sweep_still true number core s =
@@ -189,7 +196,7 @@ turned_calms (to_list behind) fate end core s same =
     (unmade_calms (list_call fate core) (list_call calm_fate core) (file_got_calms fate.first core s (handed core (list_call fate core) same)))
 turned_calms (to_sweep number next) fate end core s same =
     called_calms (behind_delete outcomes number next) (as_unmade (sweep_call number fate core)) (as_unmade (sweep_call number calm_fate core)) refl
-    (unmade_calms (sweep_call number fate core) (sweep_call number calm_fate core) (sweep_calms (is_swept core number) fate.first number core s (handed core (sweep_call number fate core) same)))
+    (unmade_calms (sweep_call number fate core) (sweep_call number calm_fate core) (sweep_call_calms number fate core s (handed core (sweep_call number fate core) same)))
 turned_calms (ended outcome) fate end core s same = inr refl
 
 unmade_still : {A : Type 0} (given : Gives Trouble A) → IsStill given.core → IsStill (as_unmade given).core

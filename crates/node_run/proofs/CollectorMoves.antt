@@ -5,7 +5,7 @@ use Rattle.meta_journal.specs.Places.{split_key}
 use Rattle.meta_journal.specs.declared.entry.Entry.{Entry}
 use Rattle.split_states.specs.declared.rows.Row.{Row}
 use Rattle.index_world.specs.Calls.{Call, is_at_once, Fate, Made, made, exists, failed, Trouble, Unmade, as_unmade, begun, deleted_by, entry_of, file_deleted, get_at_end, may_append, may_fail, settled, troubled_by}
-use Rattle.index_world.specs.Collecting.{Offer, adopted_offer, answered_by, appended_if, doom_call, doom_next, doomed_by, first_offer, last_offer, next_doomed, nothing, offer_unless, removal_offer, stale_offer, sweep_if, transact_if, is_swept}
+use Rattle.index_world.specs.Collecting.{Offer, adopted_offer, answered_by, appended_if, doom_call, doom_next, doomed_by, first_offer, last_offer, next_doomed, nothing, offer_unless, removal_offer, stale_offer, sweep_if, swept_unless, transact_if, is_swept}
 use Rattle.index_world.specs.Core.{Core}
 use Rattle.split_collector.specs.Outcomes.{Outcome}
 use Rattle.split_collector.specs.Steps.{CallLuck, CollectorLuck, alone, end_at, ends_behind, first_fate, max_calls, other_fates, step_collector, turned}
@@ -81,6 +81,10 @@ sweep_if_moves : (b : Bool) (call : Call) (number : ℕ) (core : Core) → Moves
 sweep_if_moves false call number core = stays refl
 sweep_if_moves true call number core = moves_on (file_deleted_moves call (split_key number) core) (same (answered_same true _ _))
 
+sweep_moves : (unasked : Bool) (number : ℕ) (fate : Fate) (core : Core) → Moves core (swept_unless unasked number fate core).core
+sweep_moves true number fate core = stays refl
+sweep_moves false number fate core = sweep_if_moves (is_swept core number) fate.first number core
+
 pub unmade_same : {A : Type 0} (r : Result A Trouble) (core : Core) → (troubled_by r core).core ≡ core
 unmade_same (Ok a) core = refl
 unmade_same (Err e) core = refl
@@ -92,7 +96,7 @@ called_moves to_mark luck core = appended_if_moves luck.fate 0 stale_offer core
 called_moves to_doom luck core = moves_on (doom_moves luck.fate core) (troubled_moves _ _)
 called_moves to_remove luck core = appended_if_moves luck.fate 0 removal_offer core
 called_moves (to_list behind) luck core = moves_on (file_got_moves luck.fate.first core) (troubled_moves _ _)
-called_moves (to_sweep number next) luck core = moves_on (sweep_if_moves (is_swept core number) luck.fate.first number core) (troubled_moves _ _)
+called_moves (to_sweep number next) luck core = moves_on (sweep_moves luck.fate.unasked number luck.fate core) (troubled_moves _ _)
 called_moves (ended outcome) luck core = stays refl
 
 pub alone_moves : (calls : ℕ) (turn : Turn (Option Outcome)) (fates : List Fate) (ends : List (List ℕ)) (core : Core) → Moves core (alone calls turn fates ends core).core

@@ -7,7 +7,7 @@ use Rattle.meta_store.specs.declared.refusal.Refusal.{Refusal}
 use Rattle.split_states.specs.declared.rows.Row.{Row}
 use Rattle.index_world.specs.Calls.{Call, is_at_once, Fate, Gives, Made, made, exists, failed, Trouble, faulted, no_memory, store_fault, is_foreign, is_full, is_expired, Unmade, refused, troubled, and_then, asked_clock, asking, begun, create_at_end, deleted_by, entry_of, file_deleted, file_got, get_at_end, last_create, may_append, may_fail, or_short, settle_with, settled, troubled_by}
 use Rattle.index_world.specs.Calls as calls
-use Rattle.index_world.specs.Collecting.{Offer, adopted_offer, answered_by, appended_if, doom_call, doom_next, doomed_by, first_offer, is_swept, last_offer, list_call, mark_stale_call, next_doomed, nothing, offer_unless, remove_call, removal_offer, stale_offer, sweep_call, sweep_if, transact_if}
+use Rattle.index_world.specs.Collecting.{Offer, adopted_offer, answered_by, appended_if, doom_call, doom_next, doomed_by, first_offer, is_swept, last_offer, list_call, mark_stale_call, next_doomed, nothing, offer_unless, remove_call, removal_offer, stale_offer, sweep_call, sweep_if, swept_unless, transact_if}
 use Rattle.index_world.specs.Core.{Core}
 use Rattle.split_collector.specs.Outcomes.{Outcome}
 use Rattle.split_collector.specs.Steps.{CallLuck, CollectorLuck, alone, end_at, ends_behind, failed_with, first_fate, least_left, max_calls, other_fates, outcome_at, outcome_unless, outcomes, page_by, step_collector, turned}
@@ -113,10 +113,14 @@ swept_of_store : (r : Result ⊤ Trouble) (core : Core) → IfErr IsStoreTrouble
 swept_of_store (Ok done) core h = tt
 swept_of_store (Err trouble) core h = h
 
-sweep_of_store : (swept : Bool) (call : Call) (number : ℕ) (core : Core) → OfStore (sweep_if swept call number core)
-sweep_of_store false call number core = tt
-sweep_of_store true call number core =
+sweep_if_of_store : (swept : Bool) (call : Call) (number : ℕ) (core : Core) → OfStore (sweep_if swept call number core)
+sweep_if_of_store false call number core = tt
+sweep_if_of_store true call number core =
     let given = file_deleted call (split_key number) core in swept_of_store given.answer given.core (file_deleted_of_store call (split_key number) core)
+
+sweep_of_store : (unasked : Bool) (number : ℕ) (fate : Fate) (core : Core) → OfStore (swept_unless unasked number fate core)
+sweep_of_store true number fate core = tt
+sweep_of_store false number fate core = sweep_if_of_store (is_swept core number) fate.first number core
 
 list_of_store : (call : Call) (core : Core) → OfStore (file_got call core)
 list_of_store call core = or_short_own call.short call core _ (got_file_own (may_fail call core.store_faults) core.store_faults (begun call core))
@@ -212,7 +216,7 @@ turned_goes (to_sweep number next) luck core l =
     let given = sweep_call number luck.fate core in
     let answered = troubled_by given.answer given.core in
     delete_goes number next answered.answer answered.core
-    (store_collects given.answer given.core (sweep_of_store (is_swept core number) luck.fate.first number core) (sweep_lawfully number luck.fate core l))
+    (store_collects given.answer given.core (sweep_of_store luck.fate.unasked number luck.fate core) (sweep_lawfully number luck.fate core l))
 turned_goes (ended outcome) luck core h = h
 
 alone_goes : (calls : ℕ) (turn : Turn (Option Outcome)) (fates : List Fate) (ends : List (List ℕ)) (core : Core) → Goes turn core →

@@ -30,7 +30,7 @@ use Rattle.split_states.specs.declared.rows.Row.{Row}
 use Rattle.split_states.specs.declared.rows.RowState.{RowState}
 use Rattle.split_states.specs.declared.rows.RowState.TheVariants.{Staged, Published, Marked}
 use Rattle.index_world.specs.Calls.{Call, Effect, done_at_once, done_late, done_never, is_at_once, Fate, Gives, Made, made, exists, failed, Trouble, no_memory, Unmade, refused, troubled, all_landed, and_then, answer_behind, asked_clock, asking, begun, create_at_end, deleted_by, entry_lands, entry_of, fence_of, file_deleted, file_lands, full_answer, get_at_end, got_at, got_file, land_at, last_create, last_made, last_unless, made_at, made_behind, may_append, may_fail, or_full, or_short, risen, settle_made, settle_making, settle_with, settled, taken_in, taken_unless, tried, troubled_by, unless_short, without_file, without_late}
-use Rattle.index_world.specs.Collecting.{Offer, adopted_offer, answered_by, appended_if, doom_call, doom_next, doomed_by, doomed_rows, first_offer, is_swept, last_offer, list_call, mark_stale_call, next_doomed, nothing, offer_unless, remove_call, removal_offer, stale_offer, sweep_call, sweep_if, transact_if, with_doomed}
+use Rattle.index_world.specs.Collecting.{Offer, adopted_offer, answered_by, appended_if, doom_call, doom_next, doomed_by, doomed_rows, first_offer, is_swept, last_offer, list_call, mark_stale_call, next_doomed, nothing, offer_unless, remove_call, removal_offer, stale_offer, sweep_call, sweep_if, swept_unless, transact_if, with_doomed}
 use Rattle.index_world.specs.Config.{reads}
 use Rattle.index_world.specs.Configuration.{config_or, configuration, index_of}
 use Rattle.index_world.specs.Core.{Core, File, Late, late_entry, late_dead, late_file, file_at, is_in, with_unread}
@@ -520,7 +520,11 @@ sweep_if_lawfully true call number core l =
     let given = file_deleted call (split_key number) core in swept_lawfully given.answer given.core (file_deleted_lawful call (split_key number) core l)
 
 pub sweep_lawfully : (number : ℕ) (fate : Fate) (core : Core) → IsLawful core → Lawfully (sweep_call number fate core)
-sweep_lawfully number fate core l = sweep_if_lawfully (is_swept core number) fate.first number core l
+sweep_lawfully number fate core l = by fate.unasked
+  where
+    by : (unasked : Bool) → Lawfully (swept_unless unasked number fate core)
+    by true = tt
+    by false = sweep_if_lawfully (is_swept core number) fate.first number core l
 
 got_file_lawfully : (fails : Bool) (before : ℕ) (core : Core) → IsLawful core → Lawfully (got_file fails before core)
 got_file_lawfully true before core l = tt

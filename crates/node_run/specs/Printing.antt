@@ -94,9 +94,9 @@ pub record PrintsIndexer {L : Type 0} (tells : L → Option Log) (count : L → 
 abbrev pub MergesAlone : WorkerPlace → Result Worked AllocError → WorkerPlace → Keeping → Keeping → Type 0
 MergesAlone before result after old new = worker_ends.EndsStep (λ (world : Keeping). world.told) config_kept (λ (was : Keeping) call (now : Keeping). IsAnswer call was now) before result after old new
 
--- and so a delete worker's, by the tasks that the world keeps
+-- and so a delete worker's
 abbrev pub DeletesAlone : WorkerPlace → Result Worked AllocError → WorkerPlace → Keeping → Keeping → Type 0
-DeletesAlone before result after old new = worker_ends.EndsDelete (λ (world : Keeping). world.told) config_kept (λ (world : Keeping). world.meta.tasks) (λ (was : Keeping) call (now : Keeping). IsAnswer call was now) before result after old new
+DeletesAlone before result after old new = worker_ends.EndsDelete (λ (world : Keeping). world.told) config_kept (λ (was : Keeping) call (now : Keeping). IsAnswer call was now) before result after old new
 
 -- the words of an outcome behind the worker's name
 abbrev pub worked_text : Aim → Worked → List ℕ

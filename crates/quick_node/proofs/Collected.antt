@@ -26,7 +26,7 @@ use Rattle.split_states.specs.declared.rows.Row.{Row}
 use Rattle.split_states.specs.declared.rows.RowState.{RowState}
 use Rattle.split_states.specs.declared.rows.RowState.TheVariants.{Staged, Published, Marked}
 use Rattle.index_world.specs.Calls.{is_at_once, Call, Fate, Gives, Trouble, faulted, no_memory, Unmade, refused, troubled, asked_clock, asking, begun, deleted_by, file_deleted, got_file, marked_by, may_fail, or_short, troubled_by, without_file}
-use Rattle.index_world.specs.Collecting.{answered_by, config_taken, doom_call, doom_next, doomed_by, is_swept, list_call, mark_stale_call, may_go, next_doomed, remove_call, removal_offer, stale_offer, sweep_if, with_doomed}
+use Rattle.index_world.specs.Collecting.{answered_by, config_taken, doom_call, doom_next, doomed_by, is_swept, list_call, mark_stale_call, may_go, next_doomed, remove_call, removal_offer, stale_offer, sweep_if, swept_unless, with_doomed}
 use Rattle.index_world.specs.Config.{reads}
 use Rattle.index_world.specs.Configuration.{configuration, config_or, index_of}
 use Rattle.index_world.specs.Core.{Core, File, file_at, is_in, release_of, taken_at}
@@ -414,6 +414,11 @@ module _ (start : Core) (low : AreLow (length start.history) start) (some : 0 < 
   sweep_goes true call number next core i e =
       let given = file_deleted call (split_key number) core in swept_goes number next core given.core given.answer i e (file_cleared call (split_key number) core)
 
+  unless_goes : (unasked : Bool) (fate : Fate) (number : ℕ) (next : Option (List ℕ)) (core : Core) → Idle start core →
+      let given = swept_unless unasked number fate core in Goes (behind_delete outcomes number next (troubled_by given.answer given.core).answer) (troubled_by given.answer given.core).core
+  unless_goes true fate number next core i = λ legal. failed_steps start core (troubled no_memory) (leaves_of (takes_few i.ready))
+  unless_goes false fate number next core i = sweep_goes (is_swept core number) fate.first number next core i refl
+
   -- ---- a step
 
   called_goes : (turn : Turn (Option Outcome)) (luck : CallLuck) (core : Core) → Goes turn core → Goes (turned turn luck core).turn (turned turn luck core).core
@@ -422,7 +427,7 @@ module _ (start : Core) (low : AreLow (length start.history) start) (some : 0 < 
   called_goes to_remove luck core i = remove_goes luck.fate core i
   called_goes (to_list behind) luck core i =
       let given = list_call luck.fate core in list_goes behind (next_behind behind luck.end) given.answer given.core (listed luck.fate core i)
-  called_goes (to_sweep number next) luck core i = sweep_goes (is_swept core number) luck.fate.first number next core i refl
+  called_goes (to_sweep number next) luck core i = unless_goes luck.fate.unasked luck.fate number next core i
   called_goes (ended outcome) luck core g = g
 
   alone_goes : (count : ℕ) (turn : Turn (Option Outcome)) (fates : List Fate) (ends : List (List ℕ)) (core : Core) → Goes turn core →

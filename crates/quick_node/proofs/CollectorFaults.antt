@@ -8,7 +8,7 @@ use Rattle.meta_store.specs.declared.refusal.Refusal.{Refusal}
 use Rattle.split_states.specs.declared.rows.Row.{Row}
 use Rattle.index_world.specs.Calls.{is_at_once, Call, Fate, Trouble, faulted, no_memory, Unmade, refused, troubled, Gives, gives, Made, made, exists, failed, as_unmade, asked_clock, begun, create_at_end, deleted_by, entry_of, file_deleted, get_at_end, last_create, may_append, may_fail, settled}
 use Rattle.index_world.specs.Calls as calls
-use Rattle.index_world.specs.Collecting.{Offer, adopted_offer, answered_by, appended_if, doom_call, doom_next, doomed_by, first_offer, is_swept, last_offer, list_call, mark_stale_call, next_doomed, nothing, offer_unless, remove_call, removal_offer, stale_offer, sweep_call, sweep_if, transact_if}
+use Rattle.index_world.specs.Collecting.{Offer, adopted_offer, answered_by, appended_if, doom_call, doom_next, doomed_by, first_offer, is_swept, last_offer, list_call, mark_stale_call, next_doomed, nothing, offer_unless, remove_call, removal_offer, stale_offer, sweep_call, sweep_if, swept_unless, transact_if}
 use Rattle.index_world.specs.Core.{Core, last_count}
 use Rattle.split_collector.specs.Outcomes.{Outcome, MarkedStale, Removed}
 use Rattle.split_collector.specs.Steps.{CallLuck, CollectorLuck, Stand, alone, end_at, ends_behind, failed_with, first_fate, least_left, max_calls, other_fates, outcome_at, outcome_unless, outcomes, page_by, step_collector, turned}
@@ -113,6 +113,10 @@ sweep_if_good true call number core bound =
     let given = file_deleted call (split_key number) core in
     swept_good core.store_faults given.answer given.core (as_given trouble_told core.store_faults given (file_deleted_good call (split_key number) core bound))
 
+sweep_good : (unasked : Bool) (number : ℕ) (fate : Fate) (core : Core) → core.store_faults ≤ last_count → Good trouble_told core.store_faults (swept_unless unasked number fate core)
+sweep_good true number fate core bound = record { says = omega arith; on = omega arith; bound = bound }
+sweep_good false number fate core bound = sweep_if_good (is_swept core number) fate.first number core bound
+
 -- ---- what a step says
 
 abbrev pub by_collector : Option Outcome → List Interval
@@ -187,7 +191,7 @@ module _ (low : ℕ) where
   called_says (to_sweep number next) luck core s =
       let given = as_unmade (sweep_call number luck.fate core) in
       delete_says number next given.answer given.core
-      (from_low unmade_told core.store_faults given s.on (as_unmade_good core.store_faults (sweep_call number luck.fate core) (sweep_if_good (is_swept core number) luck.fate.first number core s.bound)))
+      (from_low unmade_told core.store_faults given s.on (as_unmade_good core.store_faults (sweep_call number luck.fate core) (sweep_good luck.fate.unasked number luck.fate core s.bound)))
   called_says (ended outcome) luck core s = s
 
   alone_says : (count : ℕ) (turn : Turn (Option Outcome)) (fates : List Fate) (ends : List (List ℕ)) (core : Core) → TurnSays turn core →

@@ -5,7 +5,7 @@ use Rattle.meta_journal.specs.Places.{split_key}
 use Rattle.meta_journal.specs.declared.entry.Entry.{Entry}
 use Rattle.split_states.specs.declared.rows.Row.{Row}
 use Rattle.index_world.specs.Calls.{Effect, done_at_once, done_late, done_never, is_at_once, Call, Fate, Gives, Made, made, exists, failed, Trouble, no_memory, Unmade, troubled, asked_and_looked, asked_clock, asked_moment, asking, and_then_by, begun, create_at_end, deleted_by, entry_of, fence_of, file_deleted, get_at_end, got_at, last_create, loaded, made_at, made_behind, may_append, may_fail, or_short, risen, settle_made, settle_making, settle_with, settled, settled_and_copied, taken_unless, tried, troubled_by, unless_short}
-use Rattle.index_world.specs.Collecting.{Offer, adopted_offer, answered_by, appended_if, doom_call, doom_next, doomed_by, first_offer, is_swept, last_offer, list_call, next_doomed, nothing, offer_unless, removal_offer, stale_offer, sweep_call, sweep_if, transact_if, with_doomed}
+use Rattle.index_world.specs.Collecting.{Offer, adopted_offer, answered_by, appended_if, doom_call, doom_next, doomed_by, first_offer, is_swept, last_offer, list_call, next_doomed, nothing, offer_unless, removal_offer, stale_offer, sweep_call, sweep_if, swept_unless, transact_if, with_doomed}
 use Rattle.index_world.specs.Core.{Core}
 use Rattle.split_collector.specs.Outcomes.{Outcome as CollectorOutcome}
 use Rattle.split_collector.specs.Steps.{CallLuck, CollectorLuck as CollectingLuck, alone, end_at, ends_behind, first_fate, max_calls, other_fates, step_collector, turned}
@@ -102,11 +102,15 @@ doom_next_timed (Some row) call core t =
 doom_timed : (fate : Fate) (core : Core) → IsTimed core → Times (doom_call fate core)
 doom_timed fate core t = asking_timed fate.unasked no_memory core _ t (λ c k. doom_next_timed (next_doomed c) fate.first c k)
 
-sweep_timed : (b : Bool) (call : Call) (number : ℕ) (core : Core) → IsTimed core → Times (sweep_if b call number core)
-sweep_timed false call number core t = t
-sweep_timed true call number core t =
+sweep_if_timed : (b : Bool) (call : Call) (number : ℕ) (core : Core) → IsTimed core → Times (sweep_if b call number core)
+sweep_if_timed false call number core t = t
+sweep_if_timed true call number core t =
     let given = file_deleted call (split_key number) core in
     same_timed given.core (answered_by true given.answer given.core).core (answered_same true given.answer given.core) (file_deleted_timed call (split_key number) core t)
+
+sweep_timed : (unasked : Bool) (number : ℕ) (fate : Fate) (core : Core) → IsTimed core → Times (swept_unless unasked number fate core)
+sweep_timed true number fate core t = t
+sweep_timed false number fate core t = sweep_if_timed (is_swept core number) fate.first number core t
 
 called_timed : (turn : CollectorTurn (Option CollectorOutcome)) (luck : CallLuck) (core : Core) → IsTimed core → IsTimed (turned turn luck core).core
 called_timed to_mark luck core t = offered_timed 0 stale_offer luck.fate core t
@@ -115,7 +119,7 @@ called_timed to_remove luck core t = offered_timed 0 removal_offer luck.fate cor
 called_timed (to_list behind) luck core t =
     let given = list_call luck.fate core in unmade_timed given.answer given.core ((got_still luck.fate.first.short core.store_faults luck.fate.first core).timed t)
 called_timed (to_sweep number next) luck core t =
-    let given = sweep_call number luck.fate core in unmade_timed given.answer given.core (sweep_timed (is_swept core number) luck.fate.first number core t)
+    let given = sweep_call number luck.fate core in unmade_timed given.answer given.core (sweep_timed luck.fate.unasked number luck.fate core t)
 called_timed (ended outcome) luck core t = t
 
 alone_timed : (count : ℕ) (turn : CollectorTurn (Option CollectorOutcome)) (fates : List Fate) (ends : List (List ℕ)) (core : Core) → IsTimed core → IsTimed (alone count turn fates ends core).core

@@ -20,7 +20,7 @@ use Rattle.leaf_search.specs.Answers.{AsksLeaf, IsAnswerOf, IsAsked, found, pass
 use Rattle.leaf_search.specs.declared.request.LeafAnswer.{LeafAnswer}
 use Rattle.leaf_search.specs.declared.request.LeafRequest.{LeafRequest}
 use Rattle.leaf_search.proofs.Suffices.{held_memory}
-use Rattle.root_search.specs.Leaves.{AllJoined, AreJoined, AreSomeOf, FailsFirst, HasAsked, HasCauseIn, IsCounted, IsFaultIn, IsFull, IsLeafAnswer, IsNoLeaf, IsRefusedIn, IsViewOf, IsWholeJoin, IsWholeViewOf, LeafGives, WantsMemory, all_hits, all_of, all_ok, count_in, placed_fault}
+use Rattle.root_search.specs.Leaves.{AllJoined, AreJoined, AreSomeOf, FailsFirst, HasAsked, HasCauseIn, IsCounted, IsFaultIn, IsFull, IsLeafAnswer, IsNoLeaf, IsRefusedIn, IsViewOf, IsJoinOf, IsWholeViewOf, LeafGives, WantsMemory, all_hits, all_of, all_ok, count_in, placed_fault}
 use Rattle.root_search.specs.declared.join_fault.JoinFault.{JoinFault}
 use Rattle.root_search.specs.declared.join_fault.JoinFault.TheVariants.{Corrupt, Memory, Missing, TooMany}
 
@@ -119,7 +119,7 @@ all_hits_more : (answers : List LeafAnswer) (next : LeafAnswer) → all_hits (an
 all_hits_more [] next = refl
 all_hits_more (a ∷ answers) next = ap (λ (l : List Placed). a.hits ++ l) (all_hits_more answers next) ∙ sym (append_assoc a.hits (all_hits answers) (all_hits (next ∷ [])))
 
-some_more : (some mine yours more all : List Placed) → AreSomeOf some all → AreSomeOf mine (some ++ yours) → more ≡ all ++ yours → AreSomeOf mine more
+pub some_more : (some mine yours more all : List Placed) → AreSomeOf some all → AreSomeOf mine (some ++ yours) → more ≡ all ++ yours → AreSomeOf mine more
 some_more some mine yours more all a b e =
     let one = IsPermutation-append_left a.0 (mine ++ b.0) (some ++ yours) b.1 in
     let two = IsPermutation-append_right some (yours ++ a.0) (a.0 ++ yours) (IsPermutation-append_comm yours a.0) in
@@ -531,7 +531,7 @@ all_give s r [] (a ∷ given) h = absurd h
 all_give s r (v ∷ views) [] h = absurd h
 all_give s r (v ∷ views) (a ∷ given) h = (h.0, all_give s r views given h.1)
 
-pub join_of : (s : Schema) (r : LeafRequest) (views : List PartView) (answers : List (Result LeafAnswer LeafError)) (result : Result LeafAnswer JoinFault) → AllZip (IsLeafAnswer s r) views answers → IfOk result (AllJoined r answers) → IfOk result (IsWholeJoin s r views)
+pub join_of : (s : Schema) (r : LeafRequest) (views : List PartView) (answers : List (Result LeafAnswer LeafError)) (result : Result LeafAnswer JoinFault) → AllZip (IsLeafAnswer s r) views answers → IfOk result (AllJoined r answers) → IfOk result (IsJoinOf s r views)
 join_of s r views answers (Ok all) leaves h =
     record { answers = h.0; are_leaves = all_give s r views h.0 (subst (λ (l : List (Result LeafAnswer LeafError)). AllZip (IsLeafAnswer s r) views l) h.1 leaves); joined = h.2 }
 join_of s r views answers (Err e) leaves h = tt

@@ -6,8 +6,9 @@ pub mod Counting
 pub mod Showing
 pub mod ShareHits
 pub mod ShareJoins
-pub mod ShareLaws
 pub mod Joining
+pub mod DocumentsHeld
+pub mod ShareWholes
 pub mod Wholes
 pub mod Zipped
 pub mod SameFooters
@@ -39,3 +40,5 @@ pub mod Steps
 pub mod TaskCalls
 pub mod TaskReads
 pub mod DeleteLaws
+pub mod Requesting
+pub mod Replying

@@ -10,7 +10,7 @@ use Rattle.split_bundle.specs.declared.part_view.PartView.{PartView}
 use Rattle.split_bundle.specs.declared.placed.Placed.{Placed}
 use Rattle.root_search.specs.Leaves.{HasAsked}
 use Rattle.root_search.specs.PartAnswers.{IsViewOfPart}
-use Rattle.root_search.specs.FetchedSplits.{HasNeeded, IsParted, beside_footer}
+use Rattle.root_search.specs.FetchedSplits.{HasNeeded, IsLentBy, IsParted, beside_footer}
 use Rattle.root_search.specs.declared.fetched_splits.FetchedPieces.{FetchedPieces}
 use Rattle.root_search.specs.declared.fetched_splits.FetchedSplit.{FetchedSplit}
 use Rattle.root_search.proofs.PartViews.{has_asked}
@@ -112,6 +112,16 @@ all_footers_seen parts splits place left views h none = front_only parts views h
 
 pub all_splits_seen : (parts : List FetchedSplit) (splits : List FetchedPieces) (place : ℕ) (left : List Footer) (views : List PartView) → AreSeen parts splits place left views → length splits ≤ place → AllZip IsViewOfPart parts views
 all_splits_seen parts splits place left views h over = front_only parts views h.front h.rest h.parts_are h.seen (mapped_none beside_footer h.rest (sym (drop_all place splits over) ∙ h.splits_left))
+
+-- the view of each part lends what is kept of it
+pub all_lent : (parts : List FetchedSplit) (splits : List FetchedPieces) (views : List PartView) → splits ≡ map beside_footer parts → AllZip IsViewOfPart parts views → AllZip IsLentBy splits views
+all_lent parts splits views same seen = subst (λ (l : List FetchedPieces). AllZip IsLentBy l views) (sym same) (go parts views seen)
+  where
+    go : (parts : List FetchedSplit) (views : List PartView) → AllZip IsViewOfPart parts views → AllZip IsLentBy (map beside_footer parts) views
+    go [] [] seen = tt
+    go [] (v ∷ views) seen = absurd seen
+    go (p ∷ parts) [] seen = absurd seen
+    go (p ∷ parts) (v ∷ views) seen = (seen.0.pieces, go parts views seen.1)
 
 -- a view of each part has what is asked of it
 pub all_asked : (s : Schema) (r : LeafRequest) (parts : List FetchedSplit) (views : List PartView) (lists : List (List Placed)) → IsAsked s r → AllZip IsViewOfPart parts views → AllZip (HasNeeded s r) parts lists → AllZip (HasAsked s r) views lists

@@ -1,5 +1,5 @@
 -- What the hits that a split gave tell of those that it did not give.
-use Rattle.std.proofs.Common.{◌≡◌, inl, inr, Option, None, IfNone, ℕ, zero, suc, ◌+◌, ◌-◌, ◌<◌, ◌≤◌, Bool, true, false, List, [], ◌∷◌, ◌++◌, count_by, length, take, drop, slice_get, Some, refl, ap, sym, subst, ◌∙◌, arith, append_assoc, append-nil, length-append}
+use Rattle.std.proofs.Common.{◌≡◌, ◌⊎◌, inl, inr, Option, None, IfNone, ℕ, zero, suc, ◌+◌, ◌-◌, ◌<◌, ◌≤◌, Bool, true, false, List, [], ◌∷◌, ◌++◌, count_by, length, take, drop, slice_get, Some, refl, ap, sym, subst, ◌∙◌, arith, append_assoc, append-nil, length-append}
 use Rattle.std.specs.Bool.{OnTrue}
 use Rattle.std.specs.Cmp.{IsStrictWeakOrder}
 use Rattle.std.specs.List.{AllByRecursion, AllZip, filter}
@@ -113,23 +113,40 @@ enough_more p shares g wanted missing left before e =
 
 -- ---- enough
 
-zip_whole : (order : Option HitOrder) (wanted : ℕ) (shares : List SplitShare) (lists : List (List Placed)) → AllByRecursion (IsWhole order wanted) shares → AllByRecursion (IsPart wanted) shares → AllZip (IsFirstOf order) shares lists
+-- a share has as many first hits of a list as are wanted of all, or as were wanted of it
+abbrev pub IsTop : Option HitOrder → ℕ → SplitShare → List Placed → Type 0
+IsTop order wanted share own = (share.answer.hits ≡ firsts wanted order own) ⊎ IsFirstOf order share own
+
+whole_top : (order : Option HitOrder) (wanted : ℕ) (g : SplitShare) (own : List Placed) → IsWhole order wanted g → IsPart wanted g → IsTop order wanted g own → g.answer.hits ≡ firsts wanted order own
+whole_top order wanted g own whole part (inl all) = all
+whole_top order wanted g own whole part (inr first) = whole own part first
+
+used_top : (order : Option HitOrder) (wanted : ℕ) (z : Placed) (g : SplitShare) (own : List Placed) → IsUsedUp order wanted z g → IsPart wanted g → IsTop order wanted g own → IsShare (comes_before order) wanted z own g.answer.hits
+used_top order wanted z g own used part (inl all) = inl all
+used_top order wanted z g own used part (inr first) = used own part first
+
+zip_whole : (order : Option HitOrder) (wanted : ℕ) (shares : List SplitShare) (lists : List (List Placed)) → AllByRecursion (IsWhole order wanted) shares → AllByRecursion (IsPart wanted) shares → AllZip (IsTop order wanted) shares lists
     → AllZip (λ (own hits : List Placed). hits ≡ firsts wanted order own) lists (hits_in shares)
 zip_whole order wanted [] [] whole parts are = tt
 zip_whole order wanted [] (own ∷ lists) whole parts are = absurd are
 zip_whole order wanted (g ∷ shares) [] whole parts are = absurd are
-zip_whole order wanted (g ∷ shares) (own ∷ lists) whole parts are = (whole.0 own parts.0 are.0, zip_whole order wanted shares lists whole.1 parts.1 are.1)
+zip_whole order wanted (g ∷ shares) (own ∷ lists) whole parts are = (whole_top order wanted g own whole.0 parts.0 are.0, zip_whole order wanted shares lists whole.1 parts.1 are.1)
 
-zip_used : (order : Option HitOrder) (wanted : ℕ) (z : Placed) (shares : List SplitShare) (lists : List (List Placed)) → AllByRecursion (IsUsedUp order wanted z) shares → AllByRecursion (IsPart wanted) shares → AllZip (IsFirstOf order) shares lists
+zip_used : (order : Option HitOrder) (wanted : ℕ) (z : Placed) (shares : List SplitShare) (lists : List (List Placed)) → AllByRecursion (IsUsedUp order wanted z) shares → AllByRecursion (IsPart wanted) shares → AllZip (IsTop order wanted) shares lists
     → AllZip (IsShare (comes_before order) wanted z) lists (hits_in shares)
 zip_used order wanted z [] [] used parts are = tt
 zip_used order wanted z [] (own ∷ lists) used parts are = absurd are
 zip_used order wanted z (g ∷ shares) [] used parts are = absurd are
-zip_used order wanted z (g ∷ shares) (own ∷ lists) used parts are = (used.0 own parts.0 are.0, zip_used order wanted z shares lists used.1 parts.1 are.1)
+zip_used order wanted z (g ∷ shares) (own ∷ lists) used parts are = (used_top order wanted z g own used.0 parts.0 are.0, zip_used order wanted z shares lists used.1 parts.1 are.1)
 
 -- of whatever lists they have the first hits, the first of all are among theirs
-pub firsts_among : (order : Option HitOrder) (wanted : ℕ) (shares : List SplitShare) (lists : List (List Placed)) → AreEnough order wanted shares → AllByRecursion (IsPart wanted) shares → AllZip (IsFirstOf order) shares lists
+pub firsts_among : (order : Option HitOrder) (wanted : ℕ) (shares : List SplitShare) (lists : List (List Placed)) → AreEnough order wanted shares → AllByRecursion (IsPart wanted) shares → AllZip (IsTop order wanted) shares lists
     → firsts wanted order (joined lists) ≡ firsts wanted order (joined (hits_in shares))
 firsts_among order wanted shares lists (inl whole) parts are = whole_joined (comes_before order) (hits_order order) wanted lists (hits_in shares) (zip_whole order wanted shares lists whole parts are)
 firsts_among order wanted shares lists (inr used) parts are =
     shares_enough (comes_before order) (hits_order order) wanted used.0 lists (hits_in shares) (zip_used order wanted used.0 shares lists used.2 parts are) used.1
+
+-- the first hits of a list are as many as are wanted of themselves
+pub own_hits : (order : Option HitOrder) (wanted : ℕ) (g : SplitShare) (own : List Placed) → IsPart wanted g → IsTop order wanted g own → g.answer.hits ≡ firsts wanted order g.answer.hits
+own_hits order wanted g own part (inl all) = own_firsts (comes_before order) (hits_order order) wanted wanted own g.answer.hits (omega arith) all
+own_hits order wanted g own part (inr first) = own_firsts (comes_before order) (hits_order order) g.wanted wanted own g.answer.hits part first

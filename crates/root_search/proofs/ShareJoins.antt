@@ -1,33 +1,20 @@
 -- Shares of splits, joined.
-use Rattle.std.proofs.Common.{◌≡◌, ℕ, ◌<◌, ◌≤◌, inl, List, [], ◌∷◌, ◌++◌, length, map, sum_by, ◌&&◌, Result, Ok, Err, IfOk, IfSome, Option, Some, None, refl, ap, sym, subst, ◌∙◌, arith, append_assoc, append-nil, length-append}
-use Rattle.std.specs.List.{All, AllByRecursion, AllZip, filter}
-use Rattle.std.proofs.lemmas.List.Elements.{All-from_recursion, filter-append}
-use Rattle.std.proofs.lemmas.List.Sums.{sum_by-cons}
+use Rattle.std.proofs.Common.{◌≡◌, ℕ, ◌<◌, ◌≤◌, List, [], ◌∷◌, ◌++◌, Result, Ok, Err, IfOk, IfSome, Option, Some, None, refl, ap, sym, subst, ◌∙◌, arith, append_assoc, append-nil}
+use Rattle.std.specs.List.{All, AllByRecursion, AllZip}
+use Rattle.std.proofs.lemmas.List.Elements.{All-from_recursion}
 use Rattle.std.specs.declared.alloc.AllocError.{AllocError}
-use Rattle.doc_value.specs.declared.facts.TimeRange.{TimeRange}
 use Rattle.doc_value.specs.declared.schema.Schema.{Schema}
-use Rattle.query_ast.specs.Askable.{CanAsk}
-use Rattle.query_ast.specs.Meaning.{meaning, within_times}
-use Rattle.query_ast.specs.Sought.{Sought, view}
-use Rattle.agg_nested.specs.Buckets.{IsNestedPartial, NestedStands}
-use Rattle.agg_nested.specs.Checking.{CanCount}
+use Rattle.agg_nested.specs.Buckets.{IsNestedPartial}
 use Rattle.agg_nested.specs.declared.request.NestedAgg.{NestedAgg}
 use Rattle.split_bundle.specs.declared.part_view.PartView.{PartView}
 use Rattle.split_bundle.specs.declared.placed.Placed.{Placed}
-use Rattle.doc_tallies.specs.Orders.{IsSortable, comes_before, firsts}
-use Rattle.doc_tallies.specs.Picked.{docs_of}
 use Rattle.doc_tallies.specs.Shares.{joined}
-use Rattle.doc_tallies.specs.declared.hit_order.HitOrder.{HitOrder}
-use Rattle.doc_tallies.proofs.HitOrders.{hits_order}
 use Rattle.doc_sets.specs.declared.leaf_error.LeafError.{LeafError}
-use Rattle.leaf_search.specs.Answers.{IsAnswerOf, IsAsked, found}
 use Rattle.leaf_search.specs.declared.request.LeafAnswer.{LeafAnswer}
 use Rattle.leaf_search.specs.declared.request.LeafRequest.{LeafRequest}
-use Rattle.root_search.specs.Leaves.{AllJoined, AreJoined, AsksAlike, GivesShare, IsCounted, IsJoinOf, IsLeafAnswer, IsShareJoin, IsShareOf, IsViewOf, IsWholeJoin, LeafGives, all_of, all_ok, answers_in}
-use Rattle.root_search.specs.Shares.{AreEnough, IsFirstOf, IsPart, hits_in}
-use Rattle.root_search.specs.declared.join_fault.JoinFault.{JoinFault}
+use Rattle.root_search.specs.Leaves.{AsksAlike, GivesShare, IsCounted, IsLeafAnswer, IsShareOf, LeafGives, all_of, all_ok, answers_in}
+use Rattle.root_search.specs.Shares.{IsPart}
 use Rattle.root_search.specs.declared.shares.SplitShare.{SplitShare}
-use Rattle.root_search.proofs.ShareHits.{firsts_among, own_firsts}
 use Rattle.root_search.proofs.Zipped.{zip_last}
 
 pub some_is : {X : Type 0} (P : X → Type 0) (o : Option X) (x : X) → IfSome o P → o ≡ Some x → P x
@@ -112,7 +99,7 @@ are_parts s r [] (g ∷ shares) give = absurd give
 are_parts s r (v ∷ views) [] give = absurd give
 are_parts s r (v ∷ views) (g ∷ shares) give = (give.0.few, are_parts s r views shares give.1)
 
-ok_same : (xs ys : List LeafAnswer) → all_ok xs ≡ all_ok ys → xs ≡ ys
+pub ok_same : (xs ys : List LeafAnswer) → all_ok xs ≡ all_ok ys → xs ≡ ys
 ok_same [] [] e = refl
 ok_same [] (y ∷ ys) e = absurd (cc)
 ok_same (x ∷ xs) [] e = absurd (cc)
@@ -121,114 +108,6 @@ ok_same (x ∷ xs) (y ∷ ys) e =
     let rest : all_ok xs ≡ all_ok ys = cc in
     ap (λ (a : LeafAnswer). a ∷ xs) one ∙ ap (λ (l : List LeafAnswer). y ∷ l) (ok_same xs ys rest)
 
--- the first hits of a list are as many as are wanted of themselves
-own_hits : (r : LeafRequest) (shares : List SplitShare) (lists : List (List Placed)) → AllByRecursion (IsPart r.wanted) shares → AllZip (IsFirstOf r.order) shares lists
-    → AllZip (λ (a : LeafAnswer) (own : List Placed). a.hits ≡ firsts r.wanted r.order own) (answers_in shares) (hits_in shares)
-own_hits r [] [] parts h = tt
-own_hits r [] (own ∷ lists) parts h = absurd h
-own_hits r (g ∷ shares) [] parts h = absurd h
-own_hits r (g ∷ shares) (own ∷ lists) parts h = (own_firsts (comes_before r.order) (hits_order r.order) g.wanted r.wanted own g.answer.hits parts.0 h.0, own_hits r shares lists parts.1 h.1)
-
-joined_are : (lists : List (List Placed)) → joined lists ≡ all_of lists
+pub joined_are : (lists : List (List Placed)) → joined lists ≡ all_of lists
 joined_are [] = refl
 joined_are (own ∷ lists) = ap (λ (l : List Placed). own ++ l) (joined_are lists)
-
--- of whatever lists enough shares have the first hits, their answers joined have the first of all
-pub first_hits : (r : LeafRequest) (shares : List SplitShare) (all : LeafAnswer) (lists : List (List Placed)) → AllByRecursion (IsPart r.wanted) shares → AreEnough r.order r.wanted shares → AreJoined r (answers_in shares) all
-    → AllZip (IsFirstOf r.order) shares lists → all.hits ≡ firsts r.wanted r.order (all_of lists)
-first_hits r shares all lists parts enough j are =
-    let first = firsts r.wanted r.order in
-    j.hits (hits_in shares) (own_hits r shares lists parts are) ∙ (ap first (sym (joined_are (hits_in shares))) ∙ (sym (firsts_among r.order r.wanted shares lists enough parts are) ∙ ap first (joined_are lists)))
-
-pub join_of_shares : (s : Schema) (r : LeafRequest) (views : List PartView) (shares : List SplitShare) (answers : List (Result LeafAnswer LeafError)) (all : LeafAnswer) → 256 < r.wanted → 2 ≤ length views → AllZip (GivesShare s r) views shares
-    → AreEnough r.order r.wanted shares → answers ≡ all_ok (answers_in shares) → AllJoined r answers all → IsShareJoin s r views all
-join_of_shares s r views shares answers all many several give enough e h =
-    record {
-      many = many;
-      several = several;
-      shares = shares;
-      are_leaves = give;
-      enough = enough;
-      joined = subst (λ (l : List LeafAnswer). AreJoined r l all) (ok_same h.0 (answers_in shares) (sym h.1 ∙ e)) h.2;
-    }
-
-pub or_whole : (s : Schema) (r : LeafRequest) (views : List PartView) (result : Result LeafAnswer JoinFault) → IfOk result (IsWholeJoin s r views) → IfOk result (IsJoinOf s r views)
-or_whole s r views (Ok all) j = inl j
-or_whole s r views (Err e) j = tt
-
--- ---- over documents
-
-found_alike : (s : Schema) (r asked : LeafRequest) (documents : List Placed) → AsksAlike r asked → found s asked documents ≡ found s r documents
-found_alike s r asked documents alike =
-    ap (λ (q : Sought). filter (λ (d : Placed). meaning s d.doc q && within_times s asked.times d.doc) documents) alike.query
-    ∙ ap (λ (t : TimeRange). filter (λ (d : Placed). meaning s d.doc (view r.query) && within_times s t d.doc) documents) alike.times
-
-asked_alike : (s : Schema) (r asked : LeafRequest) → AsksAlike r asked → IsAsked s r → IsAsked s asked
-asked_alike s r asked alike h =
-    record {
-      query = subst (λ (q : Sought). CanAsk s q) (sym alike.query) h.query;
-      order = subst (λ (o : Option HitOrder). IsSortable s o) (sym alike.order) h.order;
-      aggs = subst (λ (aggs : List NestedAgg). CanCount s aggs) (sym alike.aggs) h.aggs;
-    }
-
--- what a share tells of the documents of its split
-record ShareStands (s : Schema) (r : LeafRequest) (own : List Placed) (g : SplitShare) : Type 0 where
-  count : g.answer.count ≡ length (found s r own)
-  hits : IsFirstOf r.order g (found s r own)
-  partial : NestedStands r.aggs g.answer.partial (docs_of (found s r own))
-
-share_stands : (s : Schema) (r : LeafRequest) (v : PartView) (g : SplitShare) (own : List Placed) → GivesShare s r v g → IsViewOf s v own → IsAsked s r → ShareStands s r own g
-share_stands s r v g own gives is asked =
-    let alike = gives.alike in
-    let answer = gives.is_leaf.only own is.parts is.is_part (asked_alike s r gives.asked alike asked) in
-    let same = found_alike s r gives.asked own alike in
-    record {
-      count = answer.count ∙ ap (λ (l : List Placed). length l) same;
-      hits = answer.hits
-          ∙ (ap (λ (n : ℕ). firsts n gives.asked.order (found s gives.asked own)) gives.wanted
-          ∙ (ap (λ (o : Option HitOrder). firsts g.wanted o (found s gives.asked own)) alike.order ∙ ap (firsts g.wanted r.order) same));
-      partial = subst (λ (l : List Placed). NestedStands r.aggs g.answer.partial (docs_of l)) same
-          (subst (λ (aggs : List NestedAgg). NestedStands aggs g.answer.partial (docs_of (found s gives.asked own))) alike.aggs answer.partial);
-    }
-
-founds : Schema → LeafRequest → List (List Placed) → List (List Placed)
-founds s r lists = map (found s r) lists
-
-found_all : (s : Schema) (r : LeafRequest) (lists : List (List Placed)) → found s r (all_of lists) ≡ all_of (founds s r lists)
-unfolding founds
-found_all s r [] = refl
-found_all s r (own ∷ lists) = filter-append (λ (d : Placed). meaning s d.doc (view r.query) && within_times s r.times d.doc) own (all_of lists) ∙ ap (λ (l : List Placed). found s r own ++ l) (found_all s r lists)
-
--- the same of all splits
-record AllStand (s : Schema) (r : LeafRequest) (lists : List (List Placed)) (shares : List SplitShare) : Type 0 where
-  count : sum_by (λ (a : LeafAnswer). a.count) (answers_in shares) ≡ length (all_of (founds s r lists))
-  hits : AllZip (IsFirstOf r.order) shares (founds s r lists)
-  partial : AllZip (λ (a : LeafAnswer) (own : List Placed). NestedStands r.aggs a.partial (docs_of own)) (answers_in shares) (founds s r lists)
-
-all_stand : (s : Schema) (r : LeafRequest) (views : List PartView) (lists : List (List Placed)) (shares : List SplitShare) → AllZip (GivesShare s r) views shares → AllZip (IsViewOf s) views lists → IsAsked s r → AllStand s r lists shares
-unfolding founds
-all_stand s r [] [] [] give are asked = record { count = refl; hits = tt; partial = tt }
-all_stand s r [] [] (g ∷ shares) give are asked = absurd give
-all_stand s r [] (own ∷ lists) shares give are asked = absurd are
-all_stand s r (v ∷ views) [] shares give are asked = absurd are
-all_stand s r (v ∷ views) (own ∷ lists) [] give are asked = absurd give
-all_stand s r (v ∷ views) (own ∷ lists) (g ∷ shares) give are asked =
-    let here = share_stands s r v g own give.0 are.0 asked in
-    let rest = all_stand s r views lists shares give.1 are.1 asked in
-    let first = here.count in
-    let others = rest.count in
-    record {
-      count = omega (arith, first, others, sum_by-cons (λ (a : LeafAnswer). a.count) g.answer (answers_in shares), length-append (found s r own) (all_of (founds s r lists)));
-      hits = (here.hits, rest.hits);
-      partial = (here.partial, rest.partial);
-    }
-
-pub answer_of_join : (s : Schema) (r : LeafRequest) (views : List PartView) (lists : List (List Placed)) (all : LeafAnswer) → IsShareJoin s r views all → AllZip (IsViewOf s) views lists → IsAsked s r → IsAnswerOf s r (all_of lists) all
-answer_of_join s r views lists all j are asked =
-    let stand = all_stand s r views lists j.shares j.are_leaves are asked in
-    let same = found_all s r lists in
-    record {
-      count = j.joined.count ∙ (stand.count ∙ ap (λ (l : List Placed). length l) (sym same));
-      hits = first_hits r j.shares all (founds s r lists) (are_parts s r views j.shares j.are_leaves) j.enough j.joined stand.hits ∙ ap (firsts r.wanted r.order) (sym same);
-      partial = subst (λ (l : List Placed). NestedStands r.aggs all.partial (docs_of l)) (sym same) (j.joined.partial (founds s r lists) stand.partial);
-    }

@@ -1,8 +1,7 @@
 -- Which split is refused where what was fetched of some is read together, and what is said of the answers of all.
-use Rattle.std.proofs.Common.{◌≡◌, ℕ, suc, List, [], ◌∷◌, ◌++◌, map, length, inl, inr, refl, sym, ap, ◌∙◌, subst, arith, Option, Some, Result, Ok, Err, IfOk}
+use Rattle.std.proofs.Common.{◌≡◌, ℕ, suc, List, [], ◌∷◌, ◌++◌, map, length, inl, inr, refl, sym, ap, ◌∙◌, subst, Option, Some, Result, Ok, Err, IfOk}
 use Rattle.std.specs.List.{AllZip}
 use Rattle.std.specs.Prelude.{slice_get}
-use Rattle.std.proofs.lemmas.Slice.Zip.{AllZip-long}
 use Rattle.std.specs.declared.alloc.AllocError.{AllocError}
 use Rattle.doc_value.specs.declared.schema.Schema.{Schema}
 use Rattle.doc_sets.specs.Faults.{IsMemory}
@@ -12,8 +11,8 @@ use Rattle.leaf_search.specs.declared.request.LeafAnswer.{LeafAnswer}
 use Rattle.leaf_search.specs.declared.request.LeafRequest.{LeafRequest}
 use Rattle.search_api.specs.declared.reply.Said.{Said}
 use Rattle.split_bundle.specs.declared.part_view.PartView.{PartView}
-use Rattle.root_search.specs.Leaves.{GivesShare, IsJoinOf, IsNoLeaf, IsRefusedIn, LeafGives}
-use Rattle.root_search.specs.PartAnswers.{AreAnswered, IsCorruptAt, IsFaultAt, IsRefusedPart, IsSaidOf, IsSaidOver, IsShownOf, IsViewOfPart, PartGives, PartShare, WantsRoom}
+use Rattle.root_search.specs.Leaves.{IsJoinOf, IsNoLeaf, IsRefusedIn, LeafGives}
+use Rattle.root_search.specs.PartAnswers.{AreAnswered, IsCorruptAt, IsFaultAt, IsRefusedPart, IsSaidOf, IsSaidOver, IsShownOf, IsViewOfPart, PartGives, WantsRoom}
 use Rattle.root_search.specs.FetchedSplits.{beside_footer}
 use Rattle.root_search.specs.declared.fetched_splits.FetchedPieces.{FetchedPieces}
 use Rattle.root_search.specs.declared.fetched_splits.FetchedSplit.{FetchedSplit}
@@ -22,7 +21,6 @@ use Rattle.root_search.specs.declared.join_fault.JoinFault.TheVariants as errors
 use Rattle.root_search.specs.declared.leaf_asks.LeafAsk.{LeafAsk}
 use Rattle.root_search.specs.declared.part_answers.AnswerError.{AnswerError}
 use Rattle.root_search.specs.declared.part_answers.AnswerError.TheVariants.{Memory, Corrupt}
-use Rattle.root_search.specs.declared.shares.SplitShare.{SplitShare}
 use Rattle.root_search.proofs.PartViews.{has_asked}
 
 -- ---- each part answers
@@ -36,27 +34,8 @@ over_parts s r (p ∷ parts) [] answers seen give = absurd seen
 over_parts s r (p ∷ parts) (v ∷ views) [] seen give = absurd give
 over_parts s r (p ∷ parts) (v ∷ views) (a ∷ answers) seen give = (record { view = v; lends = seen.0; is_leaf = give.0 }, over_parts s r parts views answers seen.1 give.1)
 
-parts_give : (s : Schema) (r : LeafRequest) (parts : List FetchedSplit) (views : List PartView) (shares : List SplitShare) → AllZip IsViewOfPart parts views → AllZip (GivesShare s r) views shares → AllZip (PartShare s r) parts shares
-parts_give s r [] [] [] seen give = tt
-parts_give s r [] [] (g ∷ shares) seen give = absurd give
-parts_give s r [] (v ∷ views) shares seen give = absurd seen
-parts_give s r (p ∷ parts) [] shares seen give = absurd seen
-parts_give s r (p ∷ parts) (v ∷ views) [] seen give = absurd give
-parts_give s r (p ∷ parts) (v ∷ views) (g ∷ shares) seen give = (record { view = v; lends = seen.0; gives = give.0 }, parts_give s r parts views shares seen.1 give.1)
-
 pub parts_answered : (s : Schema) (r : LeafRequest) (parts : List FetchedSplit) (views : List PartView) (all : LeafAnswer) → AllZip IsViewOfPart parts views → IsJoinOf s r views all → AreAnswered s r parts all
-parts_answered s r parts views all seen (inl j) = inl (record { answers = j.answers; are_leaves = over_parts s r parts views j.answers seen j.are_leaves; joined = j.joined })
-parts_answered s r parts views all seen (inr j) =
-    let long = AllZip-long IsViewOfPart parts views seen in
-    let several = j.several in
-    inr (record {
-      many = j.many;
-      several = omega (arith, several, long);
-      shares = j.shares;
-      are_leaves = parts_give s r parts views j.shares seen j.are_leaves;
-      enough = j.enough;
-      joined = j.joined;
-    })
+parts_answered s r parts views all seen j = record { answers = j.answers; are_leaves = over_parts s r parts views j.answers seen j.are_leaves; joined = j.joined }
 
 -- ---- the part that is refused
 

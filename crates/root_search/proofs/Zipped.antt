@@ -23,3 +23,13 @@ zip_set {B = B} R (a ∷ xs) (b ∷ ys) zero x y all here h =
     let same : a ≡ x = cc in
     (subst (λ d. R d y) (sym same) h, all.1)
 zip_set R (a ∷ xs) (b ∷ ys) (suc i) x y all here h = (all.0, zip_set R xs ys i x y all.1 here h)
+
+-- two items at one place
+pub zip_at : {A B : Type 0} (R : A → B → Type 0) (xs : List A) (ys : List B) (i : ℕ) (x : A) (y : B) → AllZip R xs ys → slice_get xs i ≡ Some x → slice_get ys i ≡ Some y → R x y
+zip_at R [] ys i x y all one other = absurd (cc)
+zip_at R (a ∷ xs) [] i x y all one other = absurd (cc)
+zip_at R (a ∷ xs) (b ∷ ys) zero x y all one other =
+    let same : a ≡ x = cc in
+    let also : b ≡ y = cc in
+    subst (λ d. R d y) same (subst (λ e. R a e) also all.0)
+zip_at R (a ∷ xs) (b ∷ ys) (suc i) x y all one other = zip_at R xs ys i x y all.1 one other

@@ -1,5 +1,6 @@
 -- What is kept of a split file: its footer, and the ranges that a request needs.
-use Rattle.std.specs.Prelude.{◌≡◌, ℕ, ◌-◌, List, [], ◌++◌, length, map, take, drop, min, Option}
+use Rattle.std.specs.Prelude.{◌≡◌, ◌≢◌, ℕ, ◌+◌, ◌-◌, ◌≤◌, List, [], ◌++◌, length, map, take, drop, min, Option, None}
+use Rattle.std.specs.List.{AllZip}
 use Rattle.std.specs.Option.{IfSome}
 use Rattle.doc_value.specs.declared.schema.Schema.{Schema}
 use Rattle.leaf_search.specs.FileRanges.{AreRangesOf}
@@ -8,6 +9,7 @@ use Rattle.leaf_search.specs.Shown.{NeedsListed, NeedsShown, NeedsStarts}
 use Rattle.leaf_search.specs.declared.file_ranges.FileRange.{FileRange}
 use Rattle.leaf_search.specs.declared.request.LeafRequest.{LeafRequest}
 use Rattle.split_bundle.specs.Files.{Parts, file_bytes, footer_bytes}
+use Rattle.split_bundle.specs.Pieces.{held_in}
 use Rattle.split_bundle.specs.Splits.{IsSplitOf}
 use Rattle.split_bundle.specs.Views.{IsFooterOf}
 use Rattle.split_bundle.specs.declared.footer.Footer.{Footer}
@@ -69,6 +71,14 @@ pub record HoldsStarts (s : Schema) (r : LeafRequest) (documents : List Placed) 
 pub record IsLentOf (kept : KeptPiece) (piece : FilePiece) : Type 0 where
   pub start : piece.start ≡ kept.start
   pub bytes : piece.bytes.now ≡ kept.bytes
+
+-- and a view lends all that is kept of a split beside its footer
+abbrev pub IsLentBy : FetchedPieces → PartView → Type 0
+IsLentBy split view = AllZip IsLentOf split.pieces view.pieces
+
+-- the pieces of a view have each part of the section of documents
+abbrev pub HasDocuments : PartView → Type 0
+HasDocuments v = (at len : ℕ) → 4 ≤ at → at + len ≤ 4 + v.footer.layout.sections.documents → held_in v.pieces at len ≢ None
 
 -- what is kept beside its footer
 abbrev pub beside_footer : FetchedSplit → FetchedPieces

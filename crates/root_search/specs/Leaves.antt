@@ -20,7 +20,8 @@ use Rattle.leaf_search.specs.Answers.{AsksLeaf, IsAnswerOf, IsAsked}
 use Rattle.leaf_search.specs.Counts.{only_counts, read_lookups}
 use Rattle.leaf_search.specs.declared.request.LeafAnswer.{LeafAnswer}
 use Rattle.leaf_search.specs.declared.request.LeafRequest.{LeafRequest}
-use Rattle.root_search.specs.Shares.{AreEnough}
+use Rattle.root_search.specs.FetchedSplits.{HasDocuments}
+use Rattle.root_search.specs.Shares.{IsWhole}
 use Rattle.root_search.specs.declared.join_fault.JoinFault.{JoinFault}
 use Rattle.root_search.specs.declared.join_fault.JoinFault.TheVariants.{Corrupt, Memory, Missing, TooMany}
 use Rattle.root_search.specs.declared.shares.SplitShare.{SplitShare}
@@ -148,8 +149,8 @@ AllJoined r answers all = (given : List LeafAnswer) × (answers ≡ all_ok given
 abbrev pub LeafGives : Schema → LeafRequest → PartView → LeafAnswer → Type 0
 LeafGives s r view answer = IsLeafAnswer s r view (Ok answer)
 
--- The leaf of each split answered the request itself, and what they answered is joined.
-pub record IsWholeJoin (s : Schema) (r : LeafRequest) (views : List PartView) (all : LeafAnswer) : Type 0 where
+-- What splits answer is joined: the leaf of each of them answered the request.
+pub record IsJoinOf (s : Schema) (r : LeafRequest) (views : List PartView) (all : LeafAnswer) : Type 0 where
   pub answers : List LeafAnswer
   pub are_leaves : AllZip (LeafGives s r) views answers
   pub joined : AreJoined r answers all
@@ -180,23 +181,18 @@ IsShareOf wanted answer share = (answer ≡ Ok share.answer) × (share.wanted �
 abbrev pub answers_in : List SplitShare → List LeafAnswer
 answers_in shares = map (λ share. share.answer) shares
 
--- Of more than 256 hits of two splits or more, the leaf of each answered with a share. The shares are enough, so that the first hits of all are among
--- theirs, and their answers are joined.
-pub record IsShareJoin (s : Schema) (r : LeafRequest) (views : List PartView) (all : LeafAnswer) : Type 0 where
-  pub many : 256 < r.wanted
-  pub several : 2 ≤ length views
-  pub shares : List SplitShare
-  pub are_leaves : AllZip (GivesShare s r) views shares
-  pub enough : AreEnough r.order r.wanted shares
-  pub joined : AreJoined r (answers_in shares) all
+-- A share tells what its split answers to the whole request: it has as many hits as are wanted of all, as far as the split has so many, or the
+-- others stand among the documents that the view has.
+abbrev pub IsSure : LeafRequest → PartView → SplitShare → Type 0
+IsSure r v share = IsWhole r.order r.wanted share ⊎ HasDocuments v
 
--- What splits answer is joined. For at most 256 hits, and over one split, it is what each answers to the request itself.
-abbrev pub IsJoinOf : Schema → LeafRequest → List PartView → LeafAnswer → Type 0
-IsJoinOf s r views all = IsWholeJoin s r views all ⊎ IsShareJoin s r views all
+-- the share at a place does
+abbrev pub IsSureAt : LeafRequest → List PartView → List SplitShare → ℕ → Type 0
+IsSureAt r views shares place = (v : PartView) (share : SplitShare) → slice_get views place ≡ Some v → slice_get shares place ≡ Some share → IsSure r v share
 
--- the view is of no split, of whatever documents
-abbrev pub IsOfNoSplit : Schema → PartView → Type 0
-IsOfNoSplit s v = (documents : List Placed) (parts : Parts) → IsPartOf v s documents parts → ⊥
+-- each share does
+abbrev pub AreSure : LeafRequest → List PartView → List SplitShare → Type 0
+AreSure r views shares = (place : ℕ) → place < length shares → IsSureAt r views shares place
 
 -- ---- which split is refused
 

@@ -22,3 +22,4 @@ pub mod Leaving
 pub mod Footers
 pub mod Drawing
 pub mod Searching
+pub mod AnswerAll

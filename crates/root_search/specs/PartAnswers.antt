@@ -1,5 +1,5 @@
 -- What is found in splits together, and which of them is refused.
-use Rattle.std.specs.Prelude.{◌≡◌, ◌⊎◌, ℕ, ◌<◌, ◌≤◌, List, ◌∷◌, ◌++◌, length, IsPermutation, Some, Result, Ok, Err, drop, slice_get, take}
+use Rattle.std.specs.Prelude.{◌≡◌, ◌⊎◌, ℕ, List, ◌∷◌, ◌++◌, IsPermutation, Some, Result, Ok, Err, drop, slice_get, take}
 use Rattle.std.specs.List.{AllZip}
 use Rattle.doc_value.specs.declared.doc.DocField.{DocField}
 use Rattle.doc_value.specs.declared.schema.Schema.{Schema}
@@ -23,9 +23,8 @@ use Rattle.search_api.specs.declared.reply.Said.{Said}
 use Rattle.search_api.specs.declared.reply.Said.TheVariants.{Found, Deleted, Refused}
 use Rattle.search_api.specs.declared.unanswered.Unanswered.TheVariants as reasons
 use Rattle.root_search.specs.Answer.{printed}
-use Rattle.root_search.specs.Leaves.{AreJoined, GivesShare, IsLeafAnswer, all_of, answers_in}
+use Rattle.root_search.specs.Leaves.{AreJoined, IsLeafAnswer, all_of}
 use Rattle.root_search.specs.Places.{OneAtEach}
-use Rattle.root_search.specs.Shares.{AreEnough}
 use Rattle.root_search.specs.FetchedSplits.{HasNeeded, IsLentOf}
 use Rattle.root_search.specs.declared.fetched_splits.FetchedPieces.{FetchedPieces}
 use Rattle.root_search.specs.declared.fetched_splits.FetchedSplit.{FetchedSplit}
@@ -34,7 +33,6 @@ use Rattle.root_search.specs.declared.join_fault.JoinFault.TheVariants as errors
 use Rattle.root_search.specs.declared.leaf_asks.LeafAsk.{LeafAsk}
 use Rattle.root_search.specs.declared.part_answers.AnswerError.{AnswerError}
 use Rattle.root_search.specs.declared.part_answers.AnswerError.TheVariants.{Memory, Corrupt}
-use Rattle.root_search.specs.declared.shares.SplitShare.{SplitShare}
 
 -- What is found in the lists together is what is found in all of some documents, each at a place of its own, and these are
 -- those in another order.
@@ -65,30 +63,11 @@ pub record LeafOver (s : Schema) (r : LeafRequest) (part : FetchedSplit) (answer
 abbrev pub PartGives : Schema → LeafRequest → FetchedSplit → LeafAnswer → Type 0
 PartGives s r part answer = LeafOver s r part (Ok answer)
 
--- the leaf over what was kept of a split answered with a share
-pub record PartShare (s : Schema) (r : LeafRequest) (part : FetchedSplit) (share : SplitShare) : Type 0 where
-  pub view : PartView
-  pub lends : IsViewOfPart part view
-  pub gives : GivesShare s r view share
-
--- The leaf over each part answered the request itself, and their answers are joined.
-pub record AreAnsweredWhole (s : Schema) (r : LeafRequest) (parts : List FetchedSplit) (all : LeafAnswer) : Type 0 where
+-- The leaf over each part answered the request, and their answers are joined.
+pub record AreAnswered (s : Schema) (r : LeafRequest) (parts : List FetchedSplit) (all : LeafAnswer) : Type 0 where
   pub answers : List LeafAnswer
   pub are_leaves : AllZip (PartGives s r) parts answers
   pub joined : AreJoined r answers all
-
--- Of more than 256 hits of two parts or more, the leaf over each answered with a share. The shares are enough, and their answers are joined.
-pub record AreAnsweredInShares (s : Schema) (r : LeafRequest) (parts : List FetchedSplit) (all : LeafAnswer) : Type 0 where
-  pub many : 256 < r.wanted
-  pub several : 2 ≤ length parts
-  pub shares : List SplitShare
-  pub are_leaves : AllZip (PartShare s r) parts shares
-  pub enough : AreEnough r.order r.wanted shares
-  pub joined : AreJoined r (answers_in shares) all
-
--- What the leaves over all parts answered is joined. For at most 256 hits, and over one part, it is what each answered to the request itself.
-abbrev pub AreAnswered : Schema → LeafRequest → List FetchedSplit → LeafAnswer → Type 0
-AreAnswered s r parts all = AreAnsweredWhole s r parts all ⊎ AreAnsweredInShares s r parts all
 
 -- The leaf over what was kept of the split with a number met a fault that is not want of memory, and none before it did. What was kept is not
 -- what the request needs of a split, of whatever documents.

@@ -1,9 +1,10 @@
 //! What is fetched of split files.
 
-ghost use Rattle.std.specs.Prelude.{◌≡◌, IfOk, List};
+ghost use Rattle.std.specs.Prelude.{◌≡◌, ◌≤◌, IfOk, List, length};
+ghost use Rattle.std.specs.Bool.{OnTrue};
 ghost use Rattle.std.specs.List.{AllZip};
 ghost use Rattle.root_search.specs.PartAnswers.{IsViewOfPart};
-ghost use Rattle.root_search.specs.FetchedSplits.{IsLentOf, IsParted};
+ghost use Rattle.root_search.specs.FetchedSplits.{HasDocuments, IsLentBy, IsLentOf, IsParted};
 ghost use Rattle.root_search.specs.declared.fetched_splits.FetchedSplit.{FetchedSplit as Part};
 
 use byte_fields::{Bytes, List};
@@ -102,4 +103,28 @@ pub(crate) fn views_of(
         views.push(view_of(alloc, footer, split.pieces.as_slice())?)?;
     }
     Ok(views)
+}
+
+// The section of documents starts here in a split file.
+const DOCUMENTS: u64 = 4;
+
+// Whether a piece has the section of documents, which has so many bytes.
+fn is_section(piece: &KeptPiece, size: u64) -> bool
+    ensures { OnTrue result ((piece.now.start ≡ 4) × (size ≤ length piece.now.bytes)) }
+{
+    piece.start == DOCUMENTS && piece.bytes.len() as u64 >= size
+}
+
+// Whether the whole section of documents was fetched of the split of a view.
+pub(crate) fn has_documents(view: &PartView<'_>, split: &FetchedPieces) -> bool
+    requires { IsLentBy split.now view.now }
+    ensures { OnTrue result (HasDocuments view.now) }
+{
+    let size = view.footer().sections().documents;
+    for piece in split.pieces.as_slice() {
+        if is_section(piece, size) {
+            return true;
+        }
+    }
+    false
 }

@@ -1,17 +1,20 @@
 //! The answer over many splits.
 
-ghost use Rattle.std.specs.Prelude.{◌≡◌, ◌+◌, ◌^◌, ◌<◌, ◌≤◌, ◌++◌, ◌∷◌, [], List, length, Some, Err, IfErr, IfOk, IfSome, MatchResult};
+ghost use Rattle.std.specs.Prelude.{◌≡◌, ◌+◌, ◌^◌, ◌<◌, ◌≤◌, ◌++◌, ◌∷◌, [], List, length, Some, Err, IfErr, IfNone, IfOk, IfSome, MatchResult};
+ghost use Rattle.std.specs.Bool.{OnTrue};
 ghost use Rattle.std.specs.List.{All, AllZip};
 ghost use Rattle.doc_value.specs.declared.schema.Schema.{Schema};
 ghost use Rattle.agg_nested.specs.Checking.{HaveSteps};
 ghost use Rattle.split_bundle.specs.declared.placed.Placed.{Placed};
 ghost use Rattle.leaf_search.specs.Answers.{IsAnswerOf, IsAsked};
+ghost use Rattle.root_search.specs.FetchedSplits.{IsLentBy};
 ghost use Rattle.root_search.specs.Shares.{AreEnough};
-ghost use Rattle.root_search.specs.Leaves.{AllJoined, AreJoined, AsksAlike, GivesShare, HasAsked, HasCauseIn, IsCounted, IsFaultIn, IsFull, IsJoinOf, IsLeafAnswer, IsRefusedIn, IsShareJoin, IsShareOf, IsViewOf, IsWholeJoin, IsWholeViewOf, WantsMemory, all_of, all_ok, answers_in, placed_fault};
+ghost use Rattle.root_search.specs.Leaves.{AllJoined, AreJoined, AreSure, AsksAlike, GivesShare, HasAsked, HasCauseIn, IsCounted, IsFaultIn, IsFull, IsJoinOf, IsLeafAnswer, IsRefusedIn, IsShareOf, IsSure, IsSureAt, IsViewOf, IsWholeViewOf, WantsMemory, all_of, all_ok, answers_in, placed_fault};
 
+use crate::fetched_splits::{FetchedPieces, has_documents};
 use crate::join_fault::JoinFault;
 use crate::joins::merged;
-use crate::shares::{SplitShare, SplitShares, open_share, share_of};
+use crate::shares::{SplitShare, SplitShares, is_whole, open_share, share_of};
 use agg_nested::vacant_nested;
 use doc_value::{Replica, Schema};
 use leaf_search::{LeafAnswer, LeafError, LeafRequest, leaf};
@@ -207,7 +210,7 @@ fn search_whole<Rt: Threads + Sync>(
     ensures counted { IfOk result (IsCounted request.now) }
     // Over any bytes: there is an answer only where each split has one, and it is these, joined; and a split is refused only where its view is none of
     // a split, the first.
-    ensures each { IfOk result (IsWholeJoin schema.now request.now views.now) }
+    ensures each { IfOk result (IsJoinOf schema.now request.now views.now) }
     ensures refused { IfErr result (IsRefusedIn schema.now request.now views.now) }
 {
     let answers = answers_of(rt, alloc, manner, schema, request, views)?;
@@ -274,28 +277,104 @@ fn ask_again(
     }
 }
 
+// Whether a share tells what its split answers to the whole request.
+fn is_sure(
+    request: &LeafRequest,
+    view: &PartView<'_>,
+    split: &FetchedPieces,
+    share: &SplitShare,
+) -> bool
+    requires { IsLentBy split.now view.now }
+    ensures { OnTrue result (IsSure request.now view.now share.now) }
+{
+    is_whole(request.wanted, share) || has_documents(view, split)
+}
+
+// Whether the share at a place does.
+fn is_sure_at(
+    request: &LeafRequest,
+    views: &[PartView<'_>],
+    splits: &[FetchedPieces],
+    shares: &[SplitShare],
+    place: usize,
+) -> bool
+    requires lent { AllZip IsLentBy splits.now views.now }
+    ensures { OnTrue result (IsSureAt request.now views.now shares.now place) }
+{
+    let Some(view) = views.get(place) else {
+        return false;
+    };
+    let Some(split) = splits.get(place) else {
+        return false;
+    };
+    let Some(share) = shares.get(place) else {
+        return false;
+    };
+    is_sure(request, view, split, share)
+}
+
+// The place of the first share that does not.
+fn first_unsure(
+    request: &LeafRequest,
+    views: &[PartView<'_>],
+    splits: &[FetchedPieces],
+    shares: &[SplitShare],
+) -> Option<usize>
+    requires lent { AllZip IsLentBy splits.now views.now }
+    ensures { IfNone result (AreSure request.now views.now shares.now) }
+{
+    for place in 0..shares.len() {
+        if !is_sure_at(request, views, splits, shares, place) {
+            return Some(place);
+        }
+    }
+    None
+}
+
+// The place of a share that does not tell what its split answers to the whole request, or behind which others of its split may be among the first hits.
+fn open_place(
+    alloc: Global,
+    request: &LeafRequest,
+    views: &[PartView<'_>],
+    splits: &[FetchedPieces],
+    shares: &[SplitShare],
+) -> Result<Option<usize>, AllocError>
+    requires lent { AllZip IsLentBy splits.now views.now }
+    ensures sure { IfOk result (λ place. IfNone place (AreSure request.now views.now shares.now)) }
+    ensures enough { IfOk result (λ place. IfNone place (AreEnough request.now.order request.now.wanted shares.now)) }
+{
+    match first_unsure(request, views, splits, shares) {
+        Some(place) => Ok(Some(place)),
+        None => open_share(alloc, request.order, request.wanted, shares),
+    }
+}
+
 // So many splits are asked again at most.
 const AGAIN: usize = 4;
 
-// The shares, and of the splits of which more may be among the first hits as many as are wanted of all, if there are few such splits and none is at
-// fault. Those whose hits end first are asked again first, since what they have may show that the others are used up.
+// The shares, and of the splits of which more may be among the first hits, or whose shares do not tell what they answer to the whole request, as many as
+// are wanted of all, if there are few such splits and none is at fault. Those whose hits end first are asked again first, since what they have may show
+// that the others are used up.
 fn enough_shares(
     alloc: Global,
     schema: &Schema,
     request: &LeafRequest,
     views: &[PartView<'_>],
+    splits: &[FetchedPieces],
     shares: SplitShares,
 ) -> Result<Option<SplitShares>, AllocError>
     requires fields { length schema.now.fields ≤ 256 }
     requires intervals { HaveSteps request.now.aggs }
+    requires lent { AllZip IsLentBy splits.now views.now }
     requires some { 0 < request.now.wanted }
     requires shares { AllZip (GivesShare schema.now request.now) views.now shares }
     ensures give { IfOk result (λ o. IfSome o (AllZip (GivesShare schema.now request.now) views.now)) }
+    ensures sure { IfOk result (λ o. IfSome o (AreSure request.now views.now)) }
     ensures enough { IfOk result (λ o. IfSome o (AreEnough request.now.order request.now.wanted)) }
 {
     let mut shares = shares;
     for _ in 0..AGAIN {
-        match open_share(alloc, request.order, request.wanted, shares.as_slice())? {
+        match open_place(alloc, request, views, splits, shares.as_slice())? {
             None => return Ok(Some(shares)),
             Some(place) => {
                 if !ask_again(alloc, schema, request, views, place, &mut shares) {
@@ -304,7 +383,7 @@ fn enough_shares(
             }
         }
     }
-    match open_share(alloc, request.order, request.wanted, shares.as_slice())? {
+    match open_place(alloc, request, views, splits, shares.as_slice())? {
         None => Ok(Some(shares)),
         Some(_) => Ok(None),
     }
@@ -344,8 +423,9 @@ fn first_shares<Rt: Threads + Sync>(
     shares_of(alloc, wanted, answers?)
 }
 
-// What splits answer to a request together, where each is asked for a share of the hits first, and for all that are wanted only where more of its may
-// be among the first. There is none where that is not enough, or one is at fault.
+// What splits answer to a request together, where many hits are wanted and each is asked for a share of them first, and for all that are wanted only
+// where more of its may be among the first, or its share does not tell what it answers to the request itself. There is none where that is not enough, or
+// one is at fault.
 fn search_shares<Rt: Threads + Sync>(
     rt: &Rt,
     alloc: Global,
@@ -353,21 +433,21 @@ fn search_shares<Rt: Threads + Sync>(
     schema: &Schema,
     request: &LeafRequest,
     views: &[PartView<'_>],
-    share: usize,
+    splits: &[FetchedPieces],
 ) -> Result<Option<LeafAnswer>, AllocError>
     requires fields { length schema.now.fields ≤ 256 }
     requires intervals { HaveSteps request.now.aggs }
-    requires some { 0 < share }
-    requires part { share ≤ request.now.wanted }
-    requires many { 256 < request.now.wanted }
-    requires several { 2 ≤ length views.now }
+    requires lent { AllZip IsLentBy splits.now views.now }
     ensures counted { IfOk result (λ o. IfSome o (IsCounted request.now)) }
-    ensures each { IfOk result (λ o. IfSome o (IsShareJoin schema.now request.now views.now)) }
+    ensures each { IfOk result (λ o. IfSome o (IsJoinOf schema.now request.now views.now)) }
 {
+    let Some(share) = share_of(request.wanted, views.len()) else {
+        return Ok(None);
+    };
     let Some(shares) = first_shares(rt, alloc, manner, schema, request, views, share)? else {
         return Ok(None);
     };
-    let Some(shares) = enough_shares(alloc, schema, request, views, shares)? else {
+    let Some(shares) = enough_shares(alloc, schema, request, views, splits, shares)? else {
         return Ok(None);
     };
     match joined(alloc, request, answers_of_shares(alloc, shares)?) {
@@ -385,9 +465,12 @@ pub(crate) fn search_all<Rt: Threads + Sync>(
     schema: &Schema,
     request: &LeafRequest,
     views: &[PartView<'_>],
+    splits: &[FetchedPieces],
 ) -> Result<LeafAnswer, JoinFault>
     requires fields { length schema.now.fields ≤ 256 }
     requires intervals { HaveSteps request.now.aggs }
+    // The views lend what is kept of the splits.
+    requires lent { AllZip IsLentBy splits.now views.now }
     // Of splits of documents, of which there are fewer than 2^62 together.
     ensures only { (lists : List (List Placed)) → AllZip (IsViewOf schema.now) views.now lists → length (all_of lists) < 2 ^ 62 → IsAsked schema.now request.now
         → MatchResult result (IsAnswerOf schema.now request.now (all_of lists)) (HasCauseIn schema.now request.now views.now lists) }
@@ -399,16 +482,14 @@ pub(crate) fn search_all<Rt: Threads + Sync>(
         → MatchResult result (IsAnswerOf schema.now request.now (all_of lists)) WantsMemory }
     // Over any bytes.
     ensures counted { IfOk result (IsCounted request.now) }
-    // Over any bytes: there is an answer only where each split has one, to the request itself or, of more than 256 hits of two splits or more, with a
-    // share of them, and it is these, joined; and a split is refused only where its view is none of a split, the first.
+    // Over any bytes: there is an answer only where each split has one to the request itself, and it is these, joined, also where each was asked for a
+    // share of the hits; and a split is refused only where its view is none of a split, the first.
     ensures each { IfOk result (IsJoinOf schema.now request.now views.now) }
     ensures refused { IfErr result (IsRefusedIn schema.now request.now views.now) }
 {
-    if let Some(share) = share_of(request.wanted, views.len()) {
-        let all = search_shares(rt, alloc, manner, schema, request, views, share)?;
-        if let Some(all) = all {
-            return Ok(all);
-        }
+    let all = search_shares(rt, alloc, manner, schema, request, views, splits)?;
+    if let Some(all) = all {
+        return Ok(all);
     }
     search_whole(rt, alloc, manner, schema, request, views)
 }

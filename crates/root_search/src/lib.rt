@@ -2,6 +2,7 @@
 #![tactic(auto)]
 
 mod answer_laws;
+mod answering;
 mod answers;
 mod asking;
 mod delete_laws;
@@ -11,6 +12,7 @@ mod footers;
 mod join_fault;
 mod joins;
 mod leaf_asks;
+mod leaf_hold;
 mod leaves;
 mod outcome;
 mod part_answers;
@@ -21,8 +23,10 @@ mod searcher;
 mod shares;
 mod step_laws;
 
-pub use answer_laws::{same_answers, share_laws};
+pub use answer_laws::same_answers;
+pub use answering::{answer, answer_all};
 pub use delete_laws::task_laws;
+pub use leaf_hold::{LeafHold, NoHold};
 pub use outcome::{SearchStep, print_outcome};
 pub use plan_laws::{planning_laws, ruling_laws};
 pub use searcher::{Busy, Searcher};

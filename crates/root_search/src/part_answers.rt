@@ -115,7 +115,15 @@ fn leaf_answer<Rt: Threads + Sync>(
     let splits = parted.splits.as_slice();
     let views = views_of(alloc, footers, splits)?;
     let manner = manner_for(splits);
-    match search_all(rt, alloc, manner, schema, &ask.request, views.as_slice()) {
+    match search_all(
+        rt,
+        alloc,
+        manner,
+        schema,
+        &ask.request,
+        views.as_slice(),
+        splits,
+    ) {
         Ok(answer) => Ok(answer),
         Err(error) => Err(fault_of(splits, error)),
     }

@@ -100,8 +100,8 @@ fn have_enough(order: Option<HitOrder>, wanted: usize, bar: &Placed, shares: &[S
     missing == 0
 }
 
-// Whether a split gave as many hits as are wanted of all, or has no others.
-fn is_whole(wanted: usize, share: &SplitShare) -> bool
+/// Whether a split gave as many hits as are wanted of all, or has no others.
+pub(crate) fn is_whole(wanted: usize, share: &SplitShare) -> bool
     ensures whole { (order : Option Order) → OnTrue result (IsWhole order wanted share.now) }
     ensures full { result ≡ false → share.now.wanted ≤ length share.now.answer.hits }
 {

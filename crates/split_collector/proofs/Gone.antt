@@ -22,7 +22,7 @@ use Rattle.index_world.proofs.Configured.{legal_front}
 use Rattle.index_world.proofs.JournalLaws.{legal_history}
 use Rattle.index_world.proofs.Worlds.{same-landed}
 use Rattle.index_world.specs.Calls.{Call, Fate, begun, deleted_by, file_deleted, is_at_once, may_fail, risen}
-use Rattle.index_world.specs.Collecting.{answered_by, is_swept, is_swept_by, sweep_call, sweep_if}
+use Rattle.index_world.specs.Collecting.{answered_by, is_swept, is_swept_by, sweep_call, sweep_if, swept_unless}
 use Rattle.index_world.specs.Config.{reads}
 use Rattle.index_world.specs.Core.{Core, Nobody}
 use Rattle.index_world.specs.Gate.{IsSoundCore}
@@ -126,8 +126,12 @@ swept_history true call number core =
     ∙ deleted_history (may_fail call core.store_faults) (is_at_once call.effect) core.store_faults (split_key number) (begun call core)
     ∙ begun_history call core
 
+call_history : (unasked : Bool) (number : ℕ) (fate : Fate) (core : Core) → (swept_unless unasked number fate core).core.history ≡ core.history
+call_history true number fate core = refl
+call_history false number fate core = swept_history (is_swept core number) fate.first number core
+
 -- a number that was to be swept is so where its delete comes to its turn, if a sound index stands behind that
 pub still_swept : (core mid after : Core) (log : Log) (number : ℕ) (fate : Fate) → GoesFor Nobody core mid → (sweep_call number fate mid).core ≡ after → IsSoundCore after log → is_swept core number ≡ true → is_swept mid number ≡ true
 still_swept core mid after log number fate goes did sound swept =
-    let same : after.history ≡ mid.history = ap (λ (c : Core). c.history) (sym did) ∙ swept_history (is_swept mid number) fate.first number mid in
+    let same : after.history ≡ mid.history = ap (λ (c : Core). c.history) (sym did) ∙ call_history fate.unasked number fate mid in
     swept_goes core mid number goes (subst (λ (es : List Entry). Legal reads (history es)) same (legal_history sound.kept after log sound.world)) swept

@@ -4,7 +4,7 @@ use Rattle.std.specs.Prelude.{⊤, ◌==◌, find, if◌then◌else◌, MatchOpt
 use Rattle.meta_journal.specs.Places.{split_key}
 use Rattle.meta_store.specs.History.{history, last_number}
 use Rattle.index_world.specs.Calls.{Trouble, Unmade, as_unmade, faulted, file_deleted, no_memory, refused, troubled, troubled_by}
-use Rattle.index_world.specs.Collecting.{answered_by, doom_call, is_left, is_swept, list_call, mark_stale_call, remove_call, sweep_if}
+use Rattle.index_world.specs.Collecting.{answered_by, doom_call, is_left, is_swept, list_call, mark_stale_call, remove_call, sweep_if, swept_unless}
 use Rattle.index_world.specs.Core.{Core}
 use Rattle.split_collector.specs.Idle.{GaveNone, HadNothing}
 use Rattle.split_collector.specs.Outcomes.{Outcome, Doomed, Swept, Nothing}
@@ -78,7 +78,7 @@ module _ (Between : Core → Core → Type 0) where
 
   -- a delete of a number that is to be swept is its end
   sweeps_some : (number : ℕ) (next : Option (List ℕ)) (p : Passage) (ps : List Passage) → is_swept p.core number ≡ true → let left = turned (to_sweep number next) p.luck p.core in ArePassed Between left.turn left.core ps → (ran left.turn left.core ps).turn ≡ idle → ⊥
-  sweeps_some number next p ps swept passed e = by (is_swept p.core number) swept passed e
+  sweeps_some number next p ps swept passed e = unless p.luck.fate.unasked passed e
     where
       after : (answer : Result ⊤ Trouble) (core : Core) → let left = called (behind_delete outcomes number next) (as_unmade (answered_by true answer core)) in ArePassed Between left.turn left.core ps → (ran left.turn left.core ps).turn ≡ idle → ⊥
       after (Ok done) core passed' e' = let wrong = (end_is (Some (Swept number)) core ps passed' e').0 in absurd (cc)
@@ -87,6 +87,10 @@ module _ (Between : Core → Core → Type 0) where
       by : (b : Bool) → b ≡ true → let left = called (behind_delete outcomes number next) (as_unmade (sweep_if b p.luck.fate.first number p.core)) in ArePassed Between left.turn left.core ps → (ran left.turn left.core ps).turn ≡ idle → ⊥
       by true is passed' e' = let deleted = file_deleted p.luck.fate.first (split_key number) p.core in after deleted.answer deleted.core passed' e'
       by false is passed' e' = absurd (cc)
+
+      unless : (unasked : Bool) → let left = called (behind_delete outcomes number next) (as_unmade (swept_unless unasked number p.luck.fate p.core)) in ArePassed Between left.turn left.core ps → (ran left.turn left.core ps).turn ≡ idle → ⊥
+      unless true passed' e' = failed_never (troubled no_memory) (end_is (failed_with (troubled no_memory)) p.core ps passed' e').0
+      unless false passed' e' = by (is_swept p.core number) swept passed' e'
 
   none_else : (number : ℕ) (next : Option (List ℕ)) (core : Core) (ps : List Passage) → ArePassed Between (to_sweep number next) core ps → (ran (to_sweep number next) core ps).turn ≡ idle → ⊥
   none_else number next core [] passed e = absurd (cc)

@@ -9,3 +9,4 @@ pub mod Alone
 pub mod Printing
 pub mod Idling
 pub mod OnePage
+pub mod Collects

@@ -5,3 +5,4 @@ pub mod Ending
 pub mod Standing
 pub mod Paging
 pub mod Idle
+pub mod CollectAll

@@ -10,10 +10,9 @@ use Rattle.split_bundle.specs.Lists.{posting_list}
 use Rattle.split_build.proofs.Zipped.{Partly}
 use Rattle.split_merge.specs.declared.key_walks.KeyWalk.{KeyWalk}
 use Rattle.split_merge.specs.declared.lists.KeyList.{KeyList}
-use Rattle.split_merge.specs.Joining.{Holds, Joins, joined_list, renumbered}
-use Rattle.split_merge.specs.Numbering.{kept_count, number_in, tables_of}
+use Rattle.split_merge.specs.Joining.{Holds, joined_list, renumbered}
+use Rattle.split_merge.specs.Numbering.{number_in}
 use Rattle.split_merge.specs.Walking.{AreWalks, IsNotBelow, IsWalkOf}
-use Rattle.split_merge.proofs.SpellLemmas.{CanFollow, can_follow}
 
 -- a walk that stands behind a last key, and not below a key
 pub record IsReady (s : Schema) (last : Option (List ℕ)) (key : List ℕ) (v : SplitView) (w : KeyWalk) : Type 0 where
@@ -42,51 +41,25 @@ set_here P Q zero (l ∷ ls) (m ∷ ms) a d b lt is here h = (subst (λ x. P x b
 set_here P Q (suc i) [] (m ∷ ms) a d b lt is here h = absurd h
 set_here P Q (suc i) (l ∷ ls) (m ∷ ms) a d b lt is here h = (h.0, set_here P Q i ls ms a d b (omega (arith, lt)) is here h.1)
 
--- ---- a list that can be spelled so far
-
-pub record SpellsSoFar (kept : Bool) (dropped : List ℕ) (views : List SplitView) (tables : List (List ℕ)) (l : KeyList) : Type 0 where
-  pub place : ℕ
-  pub next : ℕ
-  pub list : List Posting
-  pub holds : Holds l list
-  pub follow : CanFollow kept next list
-  pub tables_are : tables ≡ tables_of dropped place next views
-
-tail_is : (t u : List ℕ) (ts us : List (List ℕ)) → t ∷ ts ≡ u ∷ us → (t ≡ u) × (ts ≡ us)
-tail_is t u ts us e = (cc, cc)
-
-pub spells_more : (kept : Bool) (dropped : List ℕ) (left : List SplitView) (v : SplitView) (vs : List SplitView) (tables : List (List ℕ)) (t : List ℕ) (ts : List (List ℕ)) (l now : KeyList) → left ≡ v ∷ vs → tables ≡ t ∷ ts
-    → (h : SpellsSoFar kept dropped left tables l) → (ps : List Posting) × Holds now ps × Joins kept (number_in t) h.list ps → SpellsSoFar kept dropped vs ts now
-spells_more kept dropped left v vs tables t ts l now left_is tables_is h (ps, holds, joins) =
-    let here = tail_is t _ ts _ (sym tables_is ∙ h.tables_are ∙ ap (λ (us : List SplitView). tables_of dropped h.place h.next us) left_is) in
-    record {
-      place = h.place + v.layout.docs;
-      next = h.next + kept_count dropped h.place v.layout.docs;
-      list = ps;
-      holds = holds;
-      follow = can_follow dropped h.place h.next v.layout.docs kept h.list ps t here.0 h.follow joins;
-      tables_are = here.1;
-    }
-
 -- ---- a list of documents so far
 
-pub record JoinsSoFar (s : Schema) (key : List ℕ) (lists : List (List Placed)) (tables : List (List ℕ)) (whole : List Posting) (l : KeyList) : Type 0 where
+pub record JoinsSoFar (s : Schema) (key : List ℕ) (lists : List (List Placed)) (tables : List (List ℕ)) (whole : List Posting) (kept : Bool) (l : KeyList) : Type 0 where
   pub list : List Posting
-  pub holds : Holds l list
+  pub holds : Holds kept l list
   pub whole_is : list ++ joined_list s key lists tables ≡ whole
 
-pub joins_more : (s : Schema) (key : List ℕ) (lists : List (List Placed)) (ds : List Placed) (dss : List (List Placed)) (tables : List (List ℕ)) (t : List ℕ) (ts : List (List ℕ)) (whole : List Posting) (l now : KeyList)
-    → lists ≡ ds ∷ dss → tables ≡ t ∷ ts → (h : JoinsSoFar s key lists tables whole l) → Holds now (h.list ++ renumbered (number_in t) (posting_list s ds key)) → JoinsSoFar s key dss ts whole now
-joins_more s key lists ds dss tables t ts whole l now lists_is tables_is h holds = record {
+pub joins_more : (s : Schema) (key : List ℕ) (lists : List (List Placed)) (ds : List Placed) (dss : List (List Placed)) (tables : List (List ℕ)) (t : List ℕ) (ts : List (List ℕ)) (whole : List Posting) (kept : Bool) (l now : KeyList)
+    → lists ≡ ds ∷ dss → tables ≡ t ∷ ts → (h : JoinsSoFar s key lists tables whole kept l) → Holds kept now (h.list ++ renumbered (number_in t) (posting_list s ds key)) → JoinsSoFar s key dss ts whole kept now
+joins_more s key lists ds dss tables t ts whole kept l now lists_is tables_is h holds = record {
   list = h.list ++ renumbered (number_in t) (posting_list s ds key);
   holds = holds;
   whole_is = append_assoc h.list (renumbered (number_in t) (posting_list s ds key)) (joined_list s key dss ts) ∙ ap (λ (x : List (List ℕ)). h.list ++ joined_list s key (ds ∷ dss) x) (sym tables_is)
       ∙ ap (λ (x : List (List Placed)). h.list ++ joined_list s key x tables) (sym lists_is) ∙ h.whole_is;
 }
 
-pub all_joined : (s : Schema) (key : List ℕ) (lists : List (List Placed)) (tables : List (List ℕ)) (whole : List Posting) (l : KeyList) → lists ≡ [] → JoinsSoFar s key lists tables whole l → Holds l whole
-all_joined s key lists tables whole l none h =
-    subst (λ (ps : List Posting). Holds l ps) (sym (append-nil h.list) ∙ ap (λ (x : List (List Placed)). h.list ++ joined_list s key x tables) (sym none) ∙ h.whole_is) h.holds
+pub all_joined : (s : Schema) (key : List ℕ) (lists : List (List Placed)) (tables : List (List ℕ)) (whole : List Posting) (kept : Bool) (l : KeyList) → lists ≡ [] → JoinsSoFar s key lists tables whole kept l → Holds kept l whole
+all_joined s key lists tables whole kept l none h =
+    subst (λ (ps : List Posting). Holds kept l ps) (sym (append-nil h.list) ∙ ap (λ (x : List (List Placed)). h.list ++ joined_list s key x tables) (sym none) ∙ h.whole_is) h.holds
 
 pub drop_is : {X : Type 0} (xs : List X) (i : ℕ) (x d : X) → i < length xs → x ≡ get_or xs i d → drop i xs ≡ x ∷ drop (i + 1) xs
 drop_is [] i x d lt is = absurd (omega (arith, lt))

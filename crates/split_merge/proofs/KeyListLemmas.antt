@@ -1,21 +1,22 @@
 -- A key is taken from the dictionary of a split.
-use Rattle.std.proofs.Common.{◌≡◌, ℕ, Bool, true, false, List, [], ◌∷◌, ◌++◌, Option, Some, Result, Ok, Err, refl, sym, ap, subst, ◌∙◌}
+use Rattle.std.proofs.Common.{◌≡◌, ℕ, ◌≤◌, length, drop, arith, length-drop, Bool, true, false, List, [], ◌∷◌, ◌++◌, Option, Some, Result, Ok, Err, refl, sym, ap, subst, ◌∙◌}
 use Rattle.std.specs.Prelude.{MatchResult, OnOk}
 use Rattle.std.specs.Borrow.{Bor}
 use Rattle.std.specs.List.{AllByRecursion}
-use Rattle.std.proofs.lemmas.List.{append-nil}
+use Rattle.std.proofs.lemmas.List.{append-nil, length-take-le}
 use Rattle.doc_value.specs.declared.schema.Schema.{Schema}
 use Rattle.fast_fields.proofs.Below.{neither_below}
 use Rattle.term_dict.specs.Keys.{is_below}
 use Rattle.term_dict.specs.Terms.{IsRising}
 use Rattle.term_dict.specs.declared.term.Term.{Term}
 use Rattle.term_dict.specs.declared.term.TermInfo.{TermInfo}
-use Rattle.term_postings.specs.Postings.{AreDocuments, Fits}
+use Rattle.term_postings.specs.Postings.{AreDocuments, Fits, position_bytes}
 use Rattle.term_postings.specs.declared.list.Posting.{Posting}
 use Rattle.split_bundle.specs.declared.placed.Placed.{Placed}
 use Rattle.split_bundle.specs.declared.split_error.SplitError.{SplitError}
 use Rattle.split_bundle.specs.declared.split_view.SplitView.{SplitView}
 use Rattle.split_bundle.specs.Files.{Parts}
+use Rattle.split_bundle.specs.Lending.{IsListAt}
 use Rattle.split_bundle.specs.Lists.{posting_list, terms_of}
 use Rattle.split_bundle.specs.SplitViews.{IsViewOf}
 use Rattle.split_merge.specs.declared.key_walks.KeyWalk.{KeyWalk}
@@ -27,10 +28,16 @@ use Rattle.split_merge.proofs.PastLemmas.{StandsAtKey, not_listed, stands_at_key
 
 each_can : (kept : Bool) (ps : List Posting) → AllByRecursion (Fits kept) ps → AllByRecursion (λ p. CanHave kept p.positions) ps
 each_can kept [] h = tt
-each_can kept (p ∷ ps) h = (record { rising = h.0.rising; may = h.0.may_have }, each_can kept ps h.1)
+each_can kept (p ∷ ps) h = (record { rising = h.0.rising; may = h.0.may_have; numbers = h.0.numbers }, each_can kept ps h.1)
 
 pub can_spell : (kept : Bool) (ps : List Posting) → AreDocuments kept ps → CanSpell kept ps
 can_spell kept ps h = record { rising = h.rising; each = each_can kept ps h.fits }
+
+-- the positions of a term's list have so many bytes
+pub positions_length : (p : Parts) (info : TermInfo) (kept : Bool) (list : List Posting) → IsListAt p info kept list → info.positions_len ≡ length (position_bytes list)
+positions_length p info kept list h =
+    let within : info.positions_len ≤ length (drop info.positions p.positions) = omega (arith, h.positions_within, length-drop info.positions p.positions) in
+    sym (length-take-le info.positions_len (drop info.positions p.positions) within) ∙ ap (λ (l : List ℕ). length l) h.positions
 
 abbrev Done : Type 0
 Done = Result (Unit {0}) SplitError
@@ -80,6 +87,6 @@ module _ (s : Schema) (last : Option (List ℕ)) (v : SplitView) (w : KeyWalk) (
     none_there ds p is =
         not_listed s ds p.keys key is.is_split.keys (stands_past_key last w key (terms_of s ds p.keys) is.is_split.dictionary.are_terms.rising (walk.only ds p is) past not_below elsewhere).looked
 
-    pub still_holds : (l : KeyList) (number : ℕ → Option ℕ) (ds : List Placed) (p : Parts) (ps : List Posting) → IsViewOf v s ds p → Holds l ps → Holds l (ps ++ renumbered number (posting_list s ds key))
-    still_holds l number ds p ps is h =
-        subst (λ (qs : List Posting). Holds l qs) (sym (append-nil ps) ∙ ap (λ (qs : List Posting). ps ++ renumbered number qs) (sym (none_there ds p is))) h
+    pub still_holds : (kept : Bool) (l : KeyList) (number : ℕ → Option ℕ) (ds : List Placed) (p : Parts) (ps : List Posting) → IsViewOf v s ds p → Holds kept l ps → Holds kept l (ps ++ renumbered number (posting_list s ds key))
+    still_holds kept l number ds p ps is h =
+        subst (λ (qs : List Posting). Holds kept l qs) (sym (append-nil ps) ∙ ap (λ (qs : List Posting). ps ++ renumbered number qs) (sym (none_there ds p is))) h

@@ -4,6 +4,7 @@ pub mod TableLemmas
 pub mod RisingLemmas
 pub mod PlaceLemmas
 pub mod ListLemmas
+pub mod BlockLemmas
 pub mod WalkLemmas
 pub mod JoinLemmas
 pub mod PastLemmas
@@ -12,6 +13,7 @@ pub mod SpellLemmas
 pub mod GatherLemmas
 pub mod JoinedLemmas
 pub mod UpToLemmas
+pub mod FrontLemmas
 pub mod StandLemmas
 pub mod GainLemmas
 pub mod ScanLemmas

@@ -1,125 +1,133 @@
--- Lists that are joined under the numbers of a table can be spelled.
-use Rattle.std.proofs.Common.{◌≡◌, ℕ, zero, suc, ◌+◌, ◌<◌, ◌≤◌, Bool, true, false, List, [], ◌∷◌, ◌++◌, Option, Some, None, refl, sym, ap, subst, ◌∙◌, arith}
-use Rattle.std.specs.Prelude.{◌==◌}
+-- A list is put in bytes, of what is listed of its documents.
+use Rattle.std.proofs.Common.{◌≡◌, ℕ, zero, suc, ◌+◌, ◌-◌, ◌<◌, ◌≤◌, Bool, List, [], ◌∷◌, ◌++◌, length, take, drop, map, get_or, refl, sym, ◌∙◌, ap, subst, arith, append_assoc, length-append, length-drop, suc-add}
 use Rattle.std.specs.List.{AllByRecursion}
-use Rattle.term_postings.specs.Postings.{AreRising, documents}
+use Rattle.std.proofs.lemmas.List.{append-nil, drop-map, drop_all, length-map, take-append-drop, take-map, take_all}
+use Rattle.byte_fields.specs.Spelling.{varint}
+use Rattle.term_postings.specs.Postings.{Fits, count_bytes, document_bytes, head_bytes, head_list, last_document, later_blocks, list_bytes, position_bytes}
 use Rattle.term_postings.specs.declared.list.Posting.{Posting}
-use Rattle.term_postings.proofs.Lists.{all_both}
-use Rattle.split_merge.specs.Joining.{CanHave, CanSpell, Joins, new_numbers, with_new}
-use Rattle.split_merge.specs.Keeping.{is_named}
-use Rattle.split_merge.specs.Numbering.{kept_count, no_number, number_in, number_of, table_of}
-use Rattle.split_merge.proofs.ListLemmas.{documents_push}
+use Rattle.term_postings.proofs.Lists.{all_left, all_right, document-append, head_step, position-append}
+use Rattle.split_merge.specs.Joining.{listed}
+use Rattle.split_merge.specs.declared.lists.Listed.{Listed}
 
-some_is : (a b : ℕ) → ◌≡◌ {A = Option ℕ} (Some a) (Some b) → a ≡ b
-some_is a b e = cc
+-- ---- what is listed
 
-given : (t n : ℕ) → number_of (Some t) ≡ Some n → n ≡ t
-given t n e = by (t == no_number) refl
-  where
-    by : (b : Bool) → (t == no_number) ≡ b → n ≡ t
-    by true is = let none : ◌≡◌ {A = Option ℕ} None (Some n) = rw is at e in absurd cc
-    by false is = let here : ◌≡◌ {A = Option ℕ} (Some t) (Some n) = rw is at e in sym (some_is t n here)
+front_of : (ps : List Posting) (i : ℕ) (d : Listed) → i < length ps → (p : Posting) × (drop i ps ≡ p ∷ drop (i + 1) ps) × (get_or (map listed ps) i d ≡ listed p)
+front_of [] i d lt = absurd (omega (arith, lt))
+front_of (p ∷ ps) zero d lt = (p, refl, refl)
+front_of (p ∷ ps) (suc i) d lt = rw suc-add (front_of ps i d (omega (arith, lt)))
 
-module _ (dropped : List ℕ) where
-  -- a number of a table is one of those that are given out
-  pub bounds : (place next count i n : ℕ) → number_in (table_of dropped place next count) i ≡ Some n → (next ≤ n) × (n < next + kept_count dropped place count)
-  bounds place next zero i n e = absurd cc
-  bounds place next (suc count) i n e = by (is_named place dropped) refl i e (λ j m f. bounds (suc place) next count j m f) (λ j m f. bounds (suc place) (suc next) count j m f)
-    where
-      by : (b : Bool) → is_named place dropped ≡ b → (i : ℕ) → number_in (table_of dropped place next (suc count)) i ≡ Some n
-          → ((j m : ℕ) → number_in (table_of dropped (suc place) next count) j ≡ Some m → (next ≤ m) × (m < next + kept_count dropped (suc place) count))
-          → ((j m : ℕ) → number_in (table_of dropped (suc place) (suc next) count) j ≡ Some m → (suc next ≤ m) × (m < suc next + kept_count dropped (suc place) count))
-          → (next ≤ n) × (n < next + kept_count dropped place (suc count))
-      by true is zero e same up = let none : ◌≡◌ {A = Option ℕ} None (Some n) = rw is at e in absurd cc
-      by true is (suc j) e same up = let h = same j n (rw is at e) in (h.0, rw is h.1)
-      by false is zero e same up =
-          let here : number_of (Some next) ≡ Some n = rw is at e in
-          let n_is = given next n here in
-          (omega (arith, n_is), rw is (omega (arith, n_is)))
-      by false is (suc j) e same up = let h = up j n (rw is at e) in (omega (arith, h.0), rw is (omega (arith, h.1)))
+-- the document at a place
+pub listed_front : (ps : List Posting) (es : List Listed) (i : ℕ) (d : Listed) → es ≡ map listed ps → i < length es → (p : Posting) × (drop i ps ≡ p ∷ drop (i + 1) ps) × (get_or es i d ≡ listed p)
+listed_front ps es i d is lt =
+    let within : i < length ps = omega (arith, lt, ap (λ (l : List Listed). length l) is, length-map ps listed) in
+    let f = front_of ps i d within in
+    (f.0, f.1, ap (λ (l : List Listed). get_or l i d) is ∙ f.2)
 
-  pub rises : (place next count i j m n : ℕ) → i < j → number_in (table_of dropped place next count) i ≡ Some m → number_in (table_of dropped place next count) j ≡ Some n → m < n
-  rises place next zero i j m n lt e f = absurd cc
-  rises place next (suc count) i zero m n lt e f = absurd (omega (arith, lt))
-  rises place next (suc count) i (suc j) m n lt e f = by (is_named place dropped) refl i lt e f (λ k small x y. rises (suc place) next count k j m n small x y) (λ k small x y. rises (suc place) (suc next) count k j m n small x y)
-    where
-      by : (b : Bool) → is_named place dropped ≡ b → (i : ℕ) → i < suc j → number_in (table_of dropped place next (suc count)) i ≡ Some m → number_in (table_of dropped place next (suc count)) (suc j) ≡ Some n
-          → ((k : ℕ) → k < j → number_in (table_of dropped (suc place) next count) k ≡ Some m → number_in (table_of dropped (suc place) next count) j ≡ Some n → m < n)
-          → ((k : ℕ) → k < j → number_in (table_of dropped (suc place) (suc next) count) k ≡ Some m → number_in (table_of dropped (suc place) (suc next) count) j ≡ Some n → m < n) → m < n
-      by true is zero lt e f same up = let none : ◌≡◌ {A = Option ℕ} None (Some m) = rw is at e in absurd cc
-      by true is (suc k) lt e f same up = same k (omega (arith, lt)) (rw is at e) (rw is at f)
-      by false is zero lt e f same up =
-          let here : number_of (Some next) ≡ Some m = rw is at e in
-          let m_is = given next m here in
-          let b = bounds (suc place) (suc next) count j n (rw is at f) in
-          omega (arith, m_is, b.0)
-      by false is (suc k) lt e f same up = up k (omega (arith, lt)) (rw is at e) (rw is at f)
+pub fits_behind : (kept : Bool) (n : ℕ) (ps : List Posting) → AllByRecursion (Fits kept) ps → AllByRecursion (Fits kept) (drop n ps)
+fits_behind kept n ps h = all_right (Fits kept) (take n ps) (drop n ps) (subst (λ (l : List Posting). AllByRecursion (Fits kept) l) (sym (take-append-drop n ps)) h)
 
-  module _ (place next count : ℕ) where
-    abbrev number : ℕ → Option ℕ
-    number i = number_in (table_of dropped place next count) i
+pub fits_front : (kept : Bool) (n : ℕ) (ps : List Posting) → AllByRecursion (Fits kept) ps → AllByRecursion (Fits kept) (take n ps)
+fits_front kept n ps h = all_left (Fits kept) (take n ps) (drop n ps) (subst (λ (l : List Posting). AllByRecursion (Fits kept) l) (sym (take-append-drop n ps)) h)
 
-    new_above : (o m : ℕ) (os : List ℕ) → number o ≡ Some m → AllByRecursion (λ p. o < p) os → AllByRecursion (λ n. m < n) (new_numbers number os)
-    new_above o m [] e h = tt
-    new_above o m (p ∷ ps) e h = by (number p) refl (new_above o m ps e h.1)
-      where
-        by : (x : Option ℕ) → number p ≡ x → AllByRecursion (λ n. m < n) (new_numbers number ps) → AllByRecursion (λ n. m < n) (with_new x (new_numbers number ps))
-        by None is rest = rest
-        by (Some n) is rest = (rises place next count o p m n h.0 e is, rest)
+pub fits_here : (kept : Bool) (n : ℕ) (ps : List Posting) (p : Posting) (qs : List Posting) → AllByRecursion (Fits kept) ps → drop n ps ≡ p ∷ qs → Fits kept p
+fits_here kept n ps p qs h is =
+    let here : AllByRecursion (Fits kept) (p ∷ qs) = subst (λ (l : List Posting). AllByRecursion (Fits kept) l) is (fits_behind kept n ps h) in
+    here.0
 
-    new_rise : (os : List ℕ) → AreRising os → AreRising (new_numbers number os)
-    new_rise [] rise = tt
-    new_rise (o ∷ os) rise = by (number o) refl (new_rise os rise.1)
-      where
-        by : (x : Option ℕ) → number o ≡ x → AreRising (new_numbers number os) → AreRising (with_new x (new_numbers number os))
-        by None is rest = rest
-        by (Some m) is rest = (new_above o m os is rise.0, rest)
+pub block_listed : (ps : List Posting) (es : List Listed) (from : ℕ) → es ≡ map listed ps → take (from + 128 - from) (drop from es) ≡ map listed (take 128 (drop from ps))
+block_listed ps es from is =
+    let size : from + 128 - from ≡ 128 = omega arith in
+    ap (λ (n : ℕ). take n (drop from es)) size ∙ ap (λ (l : List Listed). take 128 (drop from l)) is ∙ ap (λ (l : List Listed). take 128 l) (drop-map listed from ps) ∙ take-map listed 128 (drop from ps)
 
-    new_within : (os : List ℕ) → AllByRecursion (λ n. (next ≤ n) × (n < next + kept_count dropped place count)) (new_numbers number os)
-    new_within [] = tt
-    new_within (o ∷ os) = by (number o) refl (new_within os)
-      where
-        by : (x : Option ℕ) → number o ≡ x → AllByRecursion (λ n. (next ≤ n) × (n < next + kept_count dropped place count)) (new_numbers number os) → AllByRecursion (λ n. (next ≤ n) × (n < next + kept_count dropped place count)) (with_new x (new_numbers number os))
-        by None is rest = rest
-        by (Some m) is rest = (bounds place next count o m is, rest)
+pub rest_listed : (ps : List Posting) (es : List Listed) (from : ℕ) → es ≡ map listed ps → take (length es - from) (drop from es) ≡ map listed (drop from ps)
+rest_listed ps es from is =
+    let whole : length (drop from es) ≤ length es - from = omega (arith, length-drop from es) in
+    take_all (length es - from) (drop from es) whole ∙ ap (λ (l : List Listed). drop from l) is ∙ drop-map listed from ps
 
--- ---- lists behind others
+-- ---- documents that are put
 
-above_all : (x next : ℕ) (ys : List ℕ) (top : ℕ) → x < next → AllByRecursion (λ n. (next ≤ n) × (n < top)) ys → AllByRecursion (λ n. x < n) ys
-above_all x next [] top lt h = tt
-above_all x next (y ∷ ys) top lt h = (omega (arith, lt, h.0.0), above_all x next ys top lt h.1)
+-- some of the documents were put, and the rest completes them
+pub record PutsListed (kept : Bool) (start out : List ℕ) (before last : ℕ) (rest all : List Posting) : Type 0 where
+  pub blocks : out ++ document_bytes kept last rest ≡ start ++ document_bytes kept before all
+  pub last_is : last_document last rest ≡ last_document before all
 
-rising_both : (next top : ℕ) (xs ys : List ℕ) → AreRising xs → AllByRecursion (λ n. n < next) xs → AreRising ys → AllByRecursion (λ n. (next ≤ n) × (n < top)) ys → AreRising (xs ++ ys)
-rising_both next top [] ys rise low more high = more
-rising_both next top (x ∷ xs) ys rise low more high = (all_both (λ n. x < n) xs ys rise.0 (above_all x next ys top low.0 high), rising_both next top xs ys rise.1 low.1 more high)
+pub none_listed_yet : (kept : Bool) (start : List ℕ) (before : ℕ) (all : List Posting) → PutsListed kept start start before before all all
+none_listed_yet kept start before all = record { blocks = refl; last_is = refl }
 
-still_low : (next top : ℕ) (xs : List ℕ) → next ≤ top → AllByRecursion (λ n. n < next) xs → AllByRecursion (λ n. n < top) xs
-still_low next top [] le h = tt
-still_low next top (x ∷ xs) le h = (omega (arith, h.0, le), still_low next top xs le h.1)
+three : (a b c d : List ℕ) → (a ++ (b ++ c)) ++ d ≡ a ++ (b ++ (c ++ d))
+three a b c d = simp append_assoc
 
-only_low : (next top : ℕ) (ys : List ℕ) → AllByRecursion (λ n. (next ≤ n) × (n < top)) ys → AllByRecursion (λ n. n < top) ys
-only_low next top [] h = tt
-only_low next top (y ∷ ys) h = (h.0.1, only_low next top ys h.1)
+pub one_listed : (kept : Bool) (start out next : List ℕ) (before last now : ℕ) (p : Posting) (rest qs all : List Posting) → rest ≡ p ∷ qs → PutsListed kept start out before last rest all
+    → now ≡ p.document → next ≡ out ++ (varint (now - last) ++ count_bytes kept p.positions) → PutsListed kept start next before now qs all
+one_listed kept start out next before last now p rest qs all is h now_is next_is =
+    let q : PutsListed kept start out before last (p ∷ qs) all = subst (λ (l : List Posting). PutsListed kept start out before last l all) is h in
+    let put : next ≡ out ++ (varint (p.document - last) ++ count_bytes kept p.positions) = next_is ∙ ap (λ (n : ℕ). out ++ (varint (n - last) ++ count_bytes kept p.positions)) now_is in
+    subst (λ (n : ℕ). PutsListed kept start next before n qs all) (sym now_is) (record {
+      blocks = ap (λ (l : List ℕ). l ++ document_bytes kept p.document qs) put ∙ three out (varint (p.document - last)) (count_bytes kept p.positions) (document_bytes kept p.document qs) ∙ q.blocks;
+      last_is = q.last_is;
+    })
 
--- a list that can be spelled, of documents below a number
-pub record CanFollow (kept : Bool) (next : ℕ) (ps : List Posting) : Type 0 where
-  pub can : CanSpell kept ps
-  pub below : AllByRecursion (λ n. n < next) (documents ps)
+pub all_listed : (kept : Bool) (start out : List ℕ) (before last i : ℕ) (all : List Posting) (es : List Listed) → es ≡ map listed all → length es ≤ i → PutsListed kept start out before last (drop i all) all
+    → (out ≡ start ++ document_bytes kept before all) × (last ≡ last_document before all)
+all_listed kept start out before last i all es is whole h =
+    let past : length all ≤ i = omega (arith, whole, ap (λ (l : List Listed). length l) is, length-map all listed) in
+    let q : PutsListed kept start out before last [] all = subst (λ (l : List Posting). PutsListed kept start out before last l all) (drop_all i all past) h in
+    (sym (append-nil out) ∙ q.blocks, q.last_is)
 
-pub none_yet : (kept : Bool) (next : ℕ) → CanFollow kept next []
-none_yet kept next = record { can = record { rising = tt; each = tt }; below = tt }
+-- ---- blocks that are put
 
-pub can_follow : (dropped : List ℕ) (place next count : ℕ) (kept : Bool) (ps now : List Posting) (table : List ℕ) → table ≡ table_of dropped place next count → CanFollow kept next ps → Joins kept (number_in table) ps now
-    → CanFollow kept (next + kept_count dropped place count) now
-can_follow dropped place next count kept ps now table table_is h j =
-    let top = next + kept_count dropped place count in
-    let ns = new_numbers (λ i. number_in (table_of dropped place next count) i) j.old in
-    let docs : documents now ≡ documents ps ++ ns = ap (λ (qs : List Posting). documents qs) j.now_is ∙ documents_push ps j.more ∙ ap (λ (ms : List ℕ). documents ps ++ ms) (j.numbers ∙ ap (λ (t : List ℕ). new_numbers (λ i. number_in t i) j.old) table_is) in
-    let within = new_within dropped place next count j.old in
+-- some of the blocks were put, and the rest completes them
+pub record PutsHeads (kept : Bool) (start heads blocks : List ℕ) (before : ℕ) (rest all : List Posting) : Type 0 where
+  pub heads_are : heads ++ head_list (later_blocks rest) kept before rest ≡ start ++ head_list (later_blocks all) kept 0 all
+  pub blocks_are : blocks ++ document_bytes kept before rest ≡ document_bytes kept 0 all
+
+pub none_put_yet : (kept : Bool) (start : List ℕ) (all : List Posting) → PutsHeads kept start start [] 0 all all
+none_put_yet kept start all = record { heads_are = refl; blocks_are = refl }
+
+-- the positions of a block stand between two places
+places_between : (places : List ℕ) (at behind : ℕ) (rest : List Posting) → at ≤ length places → behind ≤ length places → drop at places ≡ position_bytes rest → drop behind places ≡ position_bytes (drop 128 rest)
+    → behind - at ≡ length (position_bytes (take 128 rest))
+places_between places at behind rest at_within behind_within here there =
+    let split : position_bytes rest ≡ position_bytes (take 128 rest) ++ position_bytes (drop 128 rest) = ap (λ (l : List Posting). position_bytes l) (sym (take-append-drop 128 rest)) ∙ position-append (take 128 rest) (drop 128 rest) in
+    omega (
+      arith,
+      at_within,
+      behind_within,
+      length-drop at places,
+      length-drop behind places,
+      ap (λ (l : List ℕ). length l) here,
+      ap (λ (l : List ℕ). length l) there,
+      ap (λ (l : List ℕ). length l) split,
+      length-append (position_bytes (take 128 rest)) (position_bytes (drop 128 rest)),
+    )
+
+pub one_head : (kept : Bool) (start heads blocks next_heads next_blocks places : List ℕ) (before last gap len places_len at behind : ℕ) (rest all : List Posting) → 128 < length rest
+    → PutsHeads kept start heads blocks before rest all → last ≡ last_document before (take 128 rest) → gap ≡ last - before → next_blocks ≡ blocks ++ document_bytes kept before (take 128 rest)
+    → len ≡ length next_blocks - length blocks → places_len ≡ behind - at → at ≤ length places → behind ≤ length places → drop at places ≡ position_bytes rest → drop behind places ≡ position_bytes (drop 128 rest)
+    → next_heads ≡ heads ++ (varint gap ++ (varint len ++ varint places_len)) → PutsHeads kept start next_heads next_blocks last (drop 128 rest) all
+one_head kept start heads blocks next_heads next_blocks places before last gap len places_len at behind rest all more h last_is gap_is blocks_is len_is places_len_is at_within behind_within here there heads_is =
+    let len_of : len ≡ length (document_bytes kept before (take 128 rest)) = omega (arith, len_is, ap (λ (l : List ℕ). length l) blocks_is, length-append blocks (document_bytes kept before (take 128 rest))) in
+    let places_len_of : places_len ≡ length (position_bytes (take 128 rest)) = places_len_is ∙ places_between places at behind rest at_within behind_within here there in
+    let head : varint gap ++ (varint len ++ varint places_len) ≡ head_bytes kept before (take 128 rest) =
+    ap (λ (n : ℕ). varint n ++ (varint len ++ varint places_len)) (gap_is ∙ ap (λ (n : ℕ). n - before) last_is)
+    ∙ ap (λ (n : ℕ). varint (last_document before (take 128 rest) - before) ++ (varint n ++ varint places_len)) len_of
+    ∙ ap (λ (n : ℕ). varint (last_document before (take 128 rest) - before) ++ (varint (length (document_bytes kept before (take 128 rest))) ++ varint n)) places_len_of in
+    let split : document_bytes kept before rest ≡ document_bytes kept before (take 128 rest) ++ document_bytes kept last (drop 128 rest) =
+    ap (λ (l : List Posting). document_bytes kept before l) (sym (take-append-drop 128 rest)) ∙ document-append kept before (take 128 rest) (drop 128 rest)
+    ∙ ap (λ (n : ℕ). document_bytes kept before (take 128 rest) ++ document_bytes kept n (drop 128 rest)) (sym last_is) in
     record {
-      can = record {
-        rising = subst AreRising (sym docs) (rising_both next top (documents ps) ns h.can.rising h.below (new_rise dropped place next count j.old j.rising) within);
-        each = subst (λ (qs : List Posting). AllByRecursion (λ p. CanHave kept p.positions) qs) (sym j.now_is) (all_both (λ p. CanHave kept p.positions) ps j.more h.can.each j.each);
-      };
-      below = subst (λ (ms : List ℕ). AllByRecursion (λ n. n < top) ms) (sym docs) (all_both (λ n. n < top) (documents ps) ns (still_low next top (documents ps) (omega arith) h.below) (only_low next top ns within));
+      heads_are = ap (λ (l : List ℕ). l ++ head_list (later_blocks (drop 128 rest)) kept last (drop 128 rest)) (heads_is ∙ ap (λ (l : List ℕ). heads ++ l) head)
+          ∙ append_assoc heads (head_bytes kept before (take 128 rest)) (head_list (later_blocks (drop 128 rest)) kept last (drop 128 rest))
+          ∙ ap (λ (n : ℕ). heads ++ (head_bytes kept before (take 128 rest) ++ head_list (later_blocks (drop 128 rest)) kept n (drop 128 rest))) last_is
+          ∙ ap (λ (l : List ℕ). heads ++ l) (sym (head_step kept before rest more)) ∙ h.heads_are;
+      blocks_are = ap (λ (l : List ℕ). l ++ document_bytes kept last (drop 128 rest)) blocks_is ∙ append_assoc blocks (document_bytes kept before (take 128 rest)) (document_bytes kept last (drop 128 rest))
+          ∙ ap (λ (l : List ℕ). blocks ++ l) (sym split) ∙ h.blocks_are;
     }
+
+pub last_put : (kept : Bool) (start heads blocks now : List ℕ) (before : ℕ) (rest all : List Posting) → length rest ≤ 128 → PutsHeads kept start heads blocks before rest all
+    → now ≡ (heads ++ blocks) ++ document_bytes kept before rest → now ≡ start ++ list_bytes kept all
+last_put kept start heads blocks now before rest all few h now_is =
+    let none : later_blocks rest ≡ 0 = omega arith in
+    let heads_are : heads ≡ start ++ head_list (later_blocks all) kept 0 all = sym (append-nil heads) ∙ ap (λ (n : ℕ). heads ++ head_list n kept before rest) (sym none) ∙ h.heads_are in
+    now_is ∙ append_assoc heads blocks (document_bytes kept before rest) ∙ ap (λ (l : List ℕ). heads ++ l) h.blocks_are ∙ ap (λ (l : List ℕ). l ++ document_bytes kept 0 all) heads_are
+    ∙ append_assoc start (head_list (later_blocks all) kept 0 all) (document_bytes kept 0 all)

@@ -1,5 +1,5 @@
 -- Walks and what is written up to the key that they stand behind.
-use Rattle.std.proofs.Common.{◌≡◌, ℕ, suc, ◌+◌, ◌≤◌, true, List, [], ◌∷◌, Option, Some, None, length, refl, ap, subst, inl, inr}
+use Rattle.std.proofs.Common.{◌≡◌, ℕ, suc, ◌+◌, ◌≤◌, Bool, true, List, [], ◌∷◌, Option, Some, None, length, refl, ap, subst, inl, inr}
 use Rattle.std.specs.List.{AllByRecursion}
 use Rattle.doc_value.specs.declared.schema.Schema.{Schema}
 use Rattle.term_postings.specs.declared.list.Posting.{Posting}
@@ -47,17 +47,17 @@ module _ (s : Schema) (numbers : List (List ℕ)) (views : List SplitView) where
   pub stands_first : (walks : List KeyWalk) (terms : JoinedTerms) → AreWalks s None views walks → ((ds : List Placed) → HasJoined terms s ds []) → StandsBehind walks terms
   stands_first walks terms are none = record { last = None; walks_are = are; only = λ dropped lists h. record { keys = []; are = up_to_none s (kept dropped (joined lists)); written = none (kept dropped (joined lists)) } }
 
-  pub held_of : (key : List ℕ) (dropped : List ℕ) (lists : List (List Placed)) (l : KeyList) → AreKept dropped lists → Holds l (joined_list s key lists numbers) → Holds l (posting_list s (kept dropped (joined lists)) key)
-  held_of key dropped lists l h holds =
-      subst (λ (ps : List Posting). Holds l ps) (list_joined s key dropped views lists h.of h.few) (subst (λ (ts : List (List ℕ)). Holds l (joined_list s key lists ts)) h.tables holds)
+  pub held_of : (key : List ℕ) (dropped : List ℕ) (lists : List (List Placed)) (counted : Bool) (l : KeyList) → AreKept dropped lists → Holds counted l (joined_list s key lists numbers) → Holds counted l (posting_list s (kept dropped (joined lists)) key)
+  held_of key dropped lists counted l h holds =
+      subst (λ (ps : List Posting). Holds counted l ps) (list_joined s key dropped views lists h.of h.few) (subst (λ (ts : List (List ℕ)). Holds counted l (joined_list s key lists ts)) h.tables holds)
 
-  pub stands_next : (walks now : List KeyWalk) (terms next : JoinedTerms) (key : List ℕ) (l : KeyList) (h : StandsBehind walks terms) → AllByRecursion (IsNotBelow key) walks → AreWalks s (Some key) views now
-      → ((lists : List (List Placed)) → AreViewsOf s views lists → Holds l (joined_list s key lists numbers))
-      → ((ds : List Placed) → Holds l (posting_list s ds key) → IsNext s ds h.last key → IsJoinedUpTo terms s ds h.last → IsJoinedUpTo next s ds (Some key)) → StandsBehind now next
-  stands_next walks now terms next key l h least are holds taken = record {
+  pub stands_next : (walks now : List KeyWalk) (terms next : JoinedTerms) (key : List ℕ) (counted : Bool) (l : KeyList) (h : StandsBehind walks terms) → AllByRecursion (IsNotBelow key) walks → AreWalks s (Some key) views now
+      → ((lists : List (List Placed)) → AreViewsOf s views lists → Holds counted l (joined_list s key lists numbers))
+      → ((ds : List Placed) → Holds counted l (posting_list s ds key) → IsNext s ds h.last key → IsJoinedUpTo terms s ds h.last → IsJoinedUpTo next s ds (Some key)) → StandsBehind now next
+  stands_next walks now terms next key counted l h least are holds taken = record {
     last = Some key;
     walks_are = are;
-    only = λ dropped lists k. taken (kept dropped (joined lists)) (held_of key dropped lists l k (holds lists k.of))
+    only = λ dropped lists k. taken (kept dropped (joined lists)) (held_of key dropped lists counted l k (holds lists k.of))
         (λ other past stands. least_said s dropped h.last views walks lists h.walks_are k.of key other least past stands) (h.only dropped lists k);
   }
 

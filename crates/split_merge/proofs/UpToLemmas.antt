@@ -129,7 +129,7 @@ not_below_some key other (w ∷ ws) least (inr there) = not_below_some key other
 
 -- ---- the keys, one by one
 
-not_below_then : (a b c : List ℕ) → is_below b a ≡ false → is_below c b ≡ false → is_below c a ≡ false
+pub not_below_then : (a b c : List ℕ) → is_below b a ≡ false → is_below c b ≡ false → is_below c a ≡ false
 not_below_then a b c p q = by (is_below c a) refl
   where
     by : (x : Bool) → is_below c a ≡ x → x ≡ false
@@ -234,15 +234,15 @@ module _ (s : Schema) (ds : List Placed) where
 
 -- ---- a list that is gathered
 
-pub none_said_of : (s : Schema) (key : List ℕ) (ds : List Placed) (l : KeyList) → Holds l (posting_list s ds key) → l.entries.items ≡ [] → stands_in s key ds ≡ false
-none_said_of s key ds l holds none = some_posted s key 0 ds (held_none l (posting_list s ds key) holds none)
+pub none_said_of : (s : Schema) (key : List ℕ) (ds : List Placed) (kept : Bool) (l : KeyList) → Holds kept l (posting_list s ds key) → l.entries.items ≡ [] → stands_in s key ds ≡ false
+none_said_of s key ds kept l holds none = some_posted s key 0 ds (held_none kept l (posting_list s ds key) holds none)
 
-pub some_said_of : (s : Schema) (key : List ℕ) (ds : List Placed) (l : KeyList) → Holds l (posting_list s ds key) → (l.entries.items ≡ [] → ⊥) → stands_in s key ds ≡ true
-some_said_of s key ds l holds some = by (stands_in s key ds) refl
+pub some_said_of : (s : Schema) (key : List ℕ) (ds : List Placed) (kept : Bool) (l : KeyList) → Holds kept l (posting_list s ds key) → (l.entries.items ≡ [] → ⊥) → stands_in s key ds ≡ true
+some_said_of s key ds kept l holds some = by (stands_in s key ds) refl
   where
     by : (b : Bool) → stands_in s key ds ≡ b → b ≡ true
     by true e = refl
-    by false e = absurd (some (none_held l (subst (λ (ps : List Posting). Holds l ps) (none_posted s key 0 ds e) holds)))
+    by false e = absurd (some (none_held kept l (subst (λ (ps : List Posting). Holds kept l ps) (none_posted s key 0 ds e) holds)))
 
 pub ok_map : {X E : Type 0} (P Q : Type 0) (r : Result X E) → (P → Q) → OnOk r P → OnOk r Q
 ok_map P Q (Ok x) f p = f p

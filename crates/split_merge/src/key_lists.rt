@@ -1,25 +1,24 @@
 //! The list of a key over several splits, gathered as their dictionaries are walked.
 
-ghost use Rattle.std.specs.Prelude.{◌≡◌, ◌≤◌, ◌++◌, [], ℕ, List, Option, Some, true, length, IfErr, IsOkAnd, MatchResult, OnOk};
+ghost use Rattle.std.specs.Prelude.{◌≡◌, ◌<◌, [], ℕ, List, Option, Some, true, length, IfErr, IfOk, IsOkAnd, MatchResult, OnOk};
 ghost use Rattle.std.specs.List.{AllByRecursion};
 ghost use Rattle.doc_value.specs.declared.schema.Schema.{Schema};
 ghost use Rattle.term_dict.specs.Terms.{lookup};
 ghost use Rattle.term_postings.specs.Cursors.{StandsBefore};
-ghost use Rattle.term_postings.specs.declared.list.Posting.{Posting};
 ghost use Rattle.split_bundle.specs.declared.placed.Placed.{Placed};
 ghost use Rattle.split_bundle.specs.Files.{Parts};
 ghost use Rattle.split_bundle.specs.Lists.{keeps_places, posting_list, terms_of};
 ghost use Rattle.split_bundle.specs.SplitViews.{IsViewOf};
 ghost use Rattle.split_merge.specs.Faults.{IsWant};
-ghost use Rattle.split_merge.specs.Joining.{CanSpell, Holds, Joins, joined_list, renumbered};
+ghost use Rattle.split_merge.specs.Joining.{Adds, Holds, joined_list, renumbered};
 ghost use Rattle.split_merge.specs.Keeping.{AreViewsOf};
 ghost use Rattle.split_merge.specs.Merging.{Blames};
-ghost use Rattle.split_merge.specs.Numbering.{kept_in, no_number, number_in, tables_of};
-ghost use Rattle.split_merge.specs.Walking.{AreWalks, IsLeast, IsNotBelow, IsWalkOf, is_past};
+ghost use Rattle.split_merge.specs.Numbering.{number_in};
+ghost use Rattle.split_merge.specs.Walking.{AllBut, AreWalks, IsBeyond, IsElsewhere, IsFront, IsNotBelow, IsWalkOf, WasFront, is_past};
 
 use crate::MergeError;
 use crate::keeping::fault_of;
-use crate::key_walks::KeyWalk;
+use crate::key_walks::{Front, KeyWalk};
 use crate::lists::KeyList;
 use crate::numbers::Numbers;
 use split_bundle::{SplitError, SplitView};
@@ -50,12 +49,17 @@ fn put_term(
     kept: bool,
     list: &mut KeyList,
 ) -> Result<(), SplitError>
-    ensures joins { (ps : List Posting) → Holds list.old ps → OnOk result ((now : List Posting) × Holds list.new now × Joins kept (number_in numbers.now) ps now) }
-    ensures only { (s : Schema) (documents : List Placed) (p : Parts) (key : List ℕ) (ps : List Posting) → IsViewOf view.now s documents p → lookup key (terms_of s documents p.keys) ≡ Some info.now → kept ≡ keeps_places s key → Holds list.old ps
-        → MatchResult result (λ _. Holds list.new (ps ++ renumbered (number_in numbers.now) (posting_list s documents key))) IsWant }
+    ensures { (s : Schema) (documents : List Placed) (p : Parts) (key : List ℕ) → IsViewOf view.now s documents p → lookup key (terms_of s documents p.keys) ≡ Some info.now → kept ≡ keeps_places s key
+        → MatchResult result (λ _. Adds kept list.old list.new (renumbered (number_in numbers.now) (posting_list s documents key))) IsWant }
 {
     match cursor_over(view, info, kept) {
-        Ok(cursor) => list.put(cursor, info.docs, kept, numbers),
+        Ok(cursor) => {
+            if kept {
+                list.put_kept(cursor, info, numbers)
+            } else {
+                list.put_bare(cursor, info.docs, numbers)
+            }
+        }
         Err(fault) => Err(fault),
     }
 }
@@ -70,11 +74,10 @@ fn take_key(
     kept: bool,
     list: &mut KeyList,
 ) -> Result<(), SplitError>
-    ensures joins { (ps : List Posting) → Holds list.old ps → OnOk result ((now : List Posting) × Holds list.new now × Joins kept (number_in numbers.now) ps now) }
     ensures walk { (s : Schema) (last : Option (List ℕ)) → kept ≡ keeps_places s key.now → is_past last key.now ≡ true → IsWalkOf s last view.now walk.old → IsNotBelow key.now walk.old
         → OnOk result (IsWalkOf s (Some key.now) view.now walk.new) }
-    ensures only { (s : Schema) (last : Option (List ℕ)) (documents : List Placed) (p : Parts) (ps : List Posting) → kept ≡ keeps_places s key.now → is_past last key.now ≡ true → IsWalkOf s last view.now walk.old → IsNotBelow key.now walk.old
-        → IsViewOf view.now s documents p → Holds list.old ps → MatchResult result (λ _. Holds list.new (ps ++ renumbered (number_in numbers.now) (posting_list s documents key.now))) IsWant }
+    ensures only { (s : Schema) (last : Option (List ℕ)) (documents : List Placed) (p : Parts) → kept ≡ keeps_places s key.now → is_past last key.now ≡ true → IsWalkOf s last view.now walk.old → IsNotBelow key.now walk.old
+        → IsViewOf view.now s documents p → MatchResult result (λ _. Adds kept list.old list.new (renumbered (number_in numbers.now) (posting_list s documents key.now))) IsWant }
 {
     let Some(info) = walk.at(key) else {
         return Ok(());
@@ -85,9 +88,9 @@ fn take_key(
     }
 }
 
-/// Gathers the documents that splits have at a key, the least one that their walks stand at, and goes on behind it. After an
-/// `Err` nothing is said of the list and the walks.
-pub(crate) fn gather_key(
+// Gathers the documents that splits have at a key, the least one that their walks stand at, and goes on behind it. After an
+// `Err` nothing is said of the list and the walks.
+fn gather_key(
     views: &[SplitView<'_>],
     numbers: &[Numbers],
     walks: &mut [KeyWalk<'_>],
@@ -97,13 +100,12 @@ pub(crate) fn gather_key(
 ) -> Result<(), MergeError>
     requires numbers { length numbers.now ≡ length views.now }
     requires walks { length walks.old ≡ length views.now }
-    ensures can { (dropped : List ℕ) → numbers.now ≡ tables_of dropped 0 0 views.now → Holds list.old [] → OnOk result ((ps : List Posting) × Holds list.new ps × CanSpell kept ps) }
     ensures walks { (s : Schema) (last : Option (List ℕ)) → kept ≡ keeps_places s key.now → is_past last key.now ≡ true → AreWalks s last views.now walks.old → AllByRecursion (IsNotBelow key.now) walks.old
         → OnOk result (AreWalks s (Some key.now) views.now walks.new) }
     ensures only { (s : Schema) (last : Option (List ℕ)) (lists : List (List Placed)) → kept ≡ keeps_places s key.now → is_past last key.now ≡ true → AreWalks s last views.now walks.old → AllByRecursion (IsNotBelow key.now) walks.old
-        → AreViewsOf s views.now lists → Holds list.old [] → OnOk result (Holds list.new (joined_list s key.now lists numbers.now)) }
+        → AreViewsOf s views.now lists → Holds kept list.old [] → OnOk result (Holds kept list.new (joined_list s key.now lists numbers.now)) }
     ensures cause { (s : Schema) (last : Option (List ℕ)) → kept ≡ keeps_places s key.now → is_past last key.now ≡ true → AreWalks s last views.now walks.old → AllByRecursion (IsNotBelow key.now) walks.old
-        → Holds list.old [] → IfErr result (Blames s views.now) }
+        → IfErr result (Blames s views.now) }
 {
     for i in 0..walks.len() {
         match take_key(&views[i], &numbers[i], &mut walks[i], key, kept, list) {
@@ -112,4 +114,72 @@ pub(crate) fn gather_key(
         }
     }
     Ok(())
+}
+
+// The same, where the walk at a place alone stands at the key.
+fn gather_alone(
+    views: &[SplitView<'_>],
+    numbers: &[Numbers],
+    walks: &mut [KeyWalk<'_>],
+    place: usize,
+    key: &[u8],
+    kept: bool,
+    list: &mut KeyList,
+) -> Result<(), MergeError>
+    requires numbers { length numbers.now ≡ length views.now }
+    requires walks { length walks.old ≡ length views.now }
+    requires place { place < length walks.old }
+    ensures walks { (s : Schema) (last : Option (List ℕ)) → kept ≡ keeps_places s key.now → is_past last key.now ≡ true → AreWalks s last views.now walks.old → AllByRecursion (IsNotBelow key.now) walks.old
+        → AllBut place (IsElsewhere key.now) walks.old → OnOk result (AreWalks s (Some key.now) views.now walks.new) }
+    ensures only { (s : Schema) (last : Option (List ℕ)) (lists : List (List Placed)) → kept ≡ keeps_places s key.now → is_past last key.now ≡ true → AreWalks s last views.now walks.old → AllByRecursion (IsNotBelow key.now) walks.old
+        → AllBut place (IsElsewhere key.now) walks.old → AreViewsOf s views.now lists → Holds kept list.old [] → OnOk result (Holds kept list.new (joined_list s key.now lists numbers.now)) }
+    ensures cause { (s : Schema) (last : Option (List ℕ)) → kept ≡ keeps_places s key.now → is_past last key.now ≡ true → AreWalks s last views.now walks.old → AllByRecursion (IsNotBelow key.now) walks.old
+        → IfErr result (Blames s views.now) }
+    ensures others { (bound : Option (List ℕ)) → AllBut place (IsBeyond bound) walks.old → AllBut place (IsBeyond bound) walks.new }
+    ensures size { length walks.new ≡ length walks.old }
+{
+    match take_key(
+        &views[place],
+        &numbers[place],
+        &mut walks[place],
+        key,
+        kept,
+        list,
+    ) {
+        Ok(()) => Ok(()),
+        Err(fault) => Err(fault_of(place, fault)),
+    }
+}
+
+/// Gathers the documents that splits have at the key in front, and goes on behind it. It gives the front, where its walk alone
+/// went on. After an `Err` nothing is said of the list and the walks.
+pub(crate) fn gather_front<'a>(
+    views: &[SplitView<'_>],
+    numbers: &[Numbers],
+    walks: &mut [KeyWalk<'_>],
+    front: Front<'a>,
+    kept: bool,
+    list: &mut KeyList,
+) -> Result<Option<Front<'a>>, MergeError>
+    requires numbers { length numbers.now ≡ length views.now }
+    requires walks { length walks.old ≡ length views.now }
+    requires front { IsFront front walks.old }
+    ensures front { IfOk result (λ before. WasFront before walks.new) }
+    ensures walks { (s : Schema) (last : Option (List ℕ)) → kept ≡ keeps_places s front.entry.key.now → is_past last front.entry.key.now ≡ true → AreWalks s last views.now walks.old
+        → OnOk result (AreWalks s (Some front.entry.key.now) views.now walks.new) }
+    ensures only { (s : Schema) (last : Option (List ℕ)) (lists : List (List Placed)) → kept ≡ keeps_places s front.entry.key.now → is_past last front.entry.key.now ≡ true → AreWalks s last views.now walks.old
+        → AreViewsOf s views.now lists → Holds kept list.old [] → OnOk result (Holds kept list.new (joined_list s front.entry.key.now lists numbers.now)) }
+    ensures cause { (s : Schema) (last : Option (List ℕ)) → kept ≡ keeps_places s front.entry.key.now → is_past last front.entry.key.now ≡ true → AreWalks s last views.now walks.old → IfErr result (Blames s views.now) }
+{
+    if front.is_alone() {
+        match gather_alone(views, numbers, walks, front.walk, front.key, kept, list) {
+            Ok(()) => Ok(Some(front)),
+            Err(fault) => Err(fault),
+        }
+    } else {
+        match gather_key(views, numbers, walks, front.key, kept, list) {
+            Ok(()) => Ok(None),
+            Err(fault) => Err(fault),
+        }
+    }
 }

@@ -1,13 +1,14 @@
 //! Walks over the terms of several dictionaries side by side.
 
-ghost use Rattle.std.specs.Prelude.{◌≡◌, ◌∷◌, ℕ, List, Some, true, IsTrue, ◌↔◌, MatchOption, MatchResult, OnOk};
+ghost use Rattle.std.specs.Prelude.{◌≡◌, ◌∷◌, ◌++◌, [], ℕ, List, Some, length, true, IsTrue, IfSome, ◌↔◌, MatchOption, MatchResult, OnOk};
 ghost use Rattle.std.specs.Option.{option_copied};
 ghost use Rattle.term_dict.specs.Keys.{is_below};
 ghost use Rattle.term_dict.specs.Readers.{IsOver, Lends};
 ghost use Rattle.term_dict.specs.Terms.{IsRising};
 ghost use Rattle.term_dict.specs.declared.term.Term.{Term};
 ghost use Rattle.split_merge.specs.Faults.{IsWant};
-ghost use Rattle.split_merge.specs.Walking.{GivesTerms, IsAt, LeastOf, key_of, lesser};
+ghost use Rattle.split_merge.specs.declared.key_walks.KeyWalk.{KeyWalk};
+ghost use Rattle.split_merge.specs.Walking.{FrontIs, GivesTerms, IsAt, IsFront, WasFront, is_before, key_of, lesser};
 
 use crate::lists::fault_in;
 use split_bundle::{Section, SplitError};
@@ -68,6 +69,7 @@ impl<'a> KeyWalk<'a> {
     }
 
     /// The key of the term that the walk stands at.
+    #[inline]
     fn key(&self) -> Option<&'a [u8]>
         ensures { option_copied result ≡ key_of self.now }
     {
@@ -112,13 +114,102 @@ impl<'a> KeyWalk<'a> {
     }
 }
 
-/// The least of the keys that walks stand at, if they are not all at their ends.
-pub(crate) fn least_key<'a>(walks: &[KeyWalk<'a>]) -> Option<&'a [u8]>
-    ensures { LeastOf (option_copied result) walks.now }
-{
-    let mut least = None;
-    for walk in walks {
-        least = lesser(least, walk.key());
+/// The least key that walks stand at, the place of a walk that stands at it, and the least key of the others, if they are not all at
+/// their ends.
+#[derive(Clone, Copy)]
+pub(crate) struct Front<'a> {
+    pub(crate) key: &'a [u8],
+    pub(crate) walk: usize,
+    pub(crate) bound: Option<&'a [u8]>,
+}
+
+impl<'a> Front<'a> {
+    /// Whether no other walk stands at the key.
+    pub(crate) fn is_alone(&self) -> bool
+        ensures { result ≡ is_before self.now.key.now (option_copied self.now.bound) }
+    {
+        match self.bound {
+            Some(bound) => is_below(self.key, bound),
+            None => true,
+        }
     }
-    least
+
+    // With the key of one walk more, whose place this is.
+    fn with(self, walk: usize, key: &'a [u8]) -> Front<'a>
+        ensures { (walks : List KeyWalk) (w : KeyWalk) → walk ≡ length walks → key_of w ≡ Some key.entry.now → IsFront self.entry walks → IsFront result (walks ++ w ∷ []) }
+    {
+        if is_below(key, self.key) {
+            Front {
+                key,
+                walk,
+                bound: Some(self.key),
+            }
+        } else {
+            Front {
+                key: self.key,
+                walk: self.walk,
+                bound: lesser(self.bound, Some(key)),
+            }
+        }
+    }
+}
+
+// The front of walks and of one more, whose place this is.
+fn front_with<'a>(front: Option<Front<'a>>, place: usize, walk: &KeyWalk<'a>) -> Option<Front<'a>>
+    ensures { (walks : List KeyWalk) → place ≡ length walks → FrontIs front.entry walks → FrontIs result (walks ++ walk.now ∷ []) }
+{
+    match walk.key() {
+        Some(key) => match front {
+            Some(front) => Some(front.with(place, key)),
+            None => Some(Front {
+                key,
+                walk: place,
+                bound: None,
+            }),
+        },
+        None => front,
+    }
+}
+
+// The front of walks, if they are not all at their ends.
+fn front_of<'a>(walks: &[KeyWalk<'a>]) -> Option<Front<'a>>
+    ensures { FrontIs result walks.now }
+{
+    let mut front = None;
+    for (place, walk) in walks.iter().enumerate() {
+        front = front_with(front, place, walk);
+    }
+    front
+}
+
+// The front where it is still that of a walk that stood alone in front and went on.
+fn still_front<'a>(walks: &[KeyWalk<'a>], before: Option<Front<'a>>) -> Option<Front<'a>>
+    requires { WasFront before walks.now }
+    ensures { IfSome result (λ front. IsFront front walks.now) }
+{
+    match before {
+        Some(before) => match walks[before.walk].key() {
+            Some(key) => {
+                let front = Front {
+                    key,
+                    walk: before.walk,
+                    bound: before.bound,
+                };
+                if front.is_alone() { Some(front) } else { None }
+            }
+            None => None,
+        },
+        None => None,
+    }
+}
+
+/// The front of walks, if they are not all at their ends. The one before is known where its walk alone went on.
+pub(crate) fn next_front<'a>(walks: &[KeyWalk<'a>], before: Option<Front<'a>>) -> Option<Front<'a>>
+    requires { WasFront before walks.now }
+    ensures { FrontIs result walks.now }
+{
+    match still_front(walks, before) {
+        Some(front) => Some(front),
+        None => front_of(walks),
+    }
 }

@@ -15,6 +15,7 @@ mod merging;
 mod numbers;
 mod places;
 mod scanning;
+mod spelling;
 mod terms;
 
 pub use merge_error::MergeError;

@@ -1,6 +1,6 @@
 //! The terms of several splits as those of one.
 
-ghost use Rattle.std.specs.Prelude.{◌≡◌, ◌<◌, ◌≤◌, ◌+◌, ◌^◌, ◌∷◌, ◌++◌, [], ℕ, List, Option, Some, None, length, true, IfOk, IfErr, OnOk, MatchResult};
+ghost use Rattle.std.specs.Prelude.{◌≡◌, ◌<◌, ◌≤◌, ◌+◌, ◌-◌, ◌^◌, ◌∷◌, ◌++◌, [], ℕ, List, Option, Some, None, length, true, IfOk, IfErr, OnOk, MatchResult};
 ghost use Rattle.std.specs.List.{AllZip};
 ghost use Rattle.doc_value.specs.declared.schema.Schema.{Schema};
 ghost use Rattle.term_postings.specs.declared.list.Posting.{Posting};
@@ -8,7 +8,7 @@ ghost use Rattle.split_bundle.specs.declared.placed.Placed.{Placed};
 ghost use Rattle.split_bundle.specs.Lists.{keeps_places, posting_list};
 ghost use Rattle.split_bundle.specs.Splits.{AreKeys, AreRising};
 ghost use Rattle.split_build.specs.WrittenTerms.{AreTermParts};
-ghost use Rattle.split_merge.specs.Joining.{CanSpell, Holds};
+ghost use Rattle.split_merge.specs.Joining.{Holds};
 ghost use Rattle.split_merge.specs.Faults.{IsWant};
 ghost use Rattle.split_merge.specs.Keeping.{AreViewsOf, ViewsSplit, joined, kept};
 ghost use Rattle.split_merge.specs.Merging.{Blames};
@@ -17,8 +17,8 @@ ghost use Rattle.split_merge.specs.Walking.{AreWalks, IsIndexOf, IsWalkOf, is_pa
 
 use crate::MergeError;
 use crate::keeping::fault_of;
-use crate::key_lists::gather_key;
-use crate::key_walks::{KeyWalk, least_key};
+use crate::key_lists::gather_front;
+use crate::key_walks::{KeyWalk, next_front};
 use crate::lists::KeyList;
 use crate::numbers::Numbers;
 use doc_value::Schema;
@@ -102,6 +102,8 @@ pub(crate) struct JoinedTerms {
     dictionary: DictBuilder,
     postings: Vec<u8>,
     positions: Vec<u8>,
+    // The bytes of the blocks of one list.
+    blocks: Vec<u8>,
 }
 
 // A number in 32 bits. There is no room for more documents.
@@ -112,6 +114,13 @@ fn narrow(number: usize) -> Result<u32, AllocError>
         Ok(narrow) => Ok(narrow),
         Err(_) => Err(AllocError),
     }
+}
+
+// How many bytes stand behind a place.
+fn len_behind(bytes: &[u8], from: usize) -> u64
+    ensures { result ≡ length bytes.now - from }
+{
+    bytes.len().saturating_sub(from) as u64
 }
 
 impl JoinedTerms {
@@ -125,6 +134,7 @@ impl JoinedTerms {
             dictionary: DictBuilder::vacant(alloc),
             postings: Vec::new(alloc),
             positions: Vec::new(alloc),
+            blocks: Vec::new(alloc),
         }
     }
 
@@ -136,21 +146,25 @@ impl JoinedTerms {
         kept: bool,
         list: &KeyList,
     ) -> Result<(), AllocError>
-        requires room { self.old.count + 1 < 2 ^ 64 }
-        requires list { (ps : List Posting) × Holds list.now ps × CanSpell kept ps }
+        requires { self.old.count + 1 < 2 ^ 64 }
         ensures count { OnOk result (self.new.count ≡ self.old.count + 1) }
-        ensures written { (s : Schema) (documents : List Placed) (keys : List (List ℕ)) → kept ≡ keeps_places s key.now → Holds list.now (posting_list s documents key.now) → HasJoined self.old s documents keys
+        ensures written { (s : Schema) (documents : List Placed) (keys : List (List ℕ)) → kept ≡ keeps_places s key.now → Holds kept list.now (posting_list s documents key.now) → HasJoined self.old s documents keys
             → AreRising (keys ++ key.now ∷ []) → OnOk result (HasJoined self.new s documents (keys ++ key.now ∷ [])) }
     {
         let postings = self.postings.len();
         let positions = self.positions.len();
-        list.append(alloc, kept, &mut self.postings, &mut self.positions)?;
+        list.append(
+            kept,
+            &mut self.blocks,
+            &mut self.postings,
+            &mut self.positions,
+        )?;
         let info = TermInfo {
             docs: narrow(list.len())?,
             postings: postings as u64,
-            postings_len: (self.postings.len() - postings) as u64,
+            postings_len: len_behind(&self.postings, postings),
             positions: positions as u64,
-            positions_len: (self.positions.len() - positions) as u64,
+            positions_len: len_behind(&self.positions, positions),
         };
         self.dictionary.append(alloc, key, &info)?;
         self.count += 1;
@@ -165,10 +179,9 @@ impl JoinedTerms {
         kept: bool,
         list: &KeyList,
     ) -> Result<(), AllocError>
-        requires room { self.old.count + 1 < 2 ^ 64 }
-        requires list { (ps : List Posting) × Holds list.now ps × CanSpell kept ps }
+        requires { self.old.count + 1 < 2 ^ 64 }
         ensures count { OnOk result (self.new.count ≤ self.old.count + 1) }
-        ensures taken { (s : Schema) (documents : List Placed) (last : Option (List ℕ)) → kept ≡ keeps_places s key.now → Holds list.now (posting_list s documents key.now) → is_past last key.now ≡ true
+        ensures taken { (s : Schema) (documents : List Placed) (last : Option (List ℕ)) → kept ≡ keeps_places s key.now → Holds kept list.now (posting_list s documents key.now) → is_past last key.now ≡ true
             → IsNext s documents last key.now → IsJoinedUpTo self.old s documents last → OnOk result (IsJoinedUpTo self.new s documents (Some key.now)) }
     {
         if list.is_empty() {
@@ -186,6 +199,7 @@ impl JoinedTerms {
             dictionary,
             postings,
             positions,
+            ..
         } = self;
         let (dictionary, index) = dictionary.finish();
         TermParts {
@@ -214,14 +228,18 @@ fn join_walks(
 {
     let mut list = KeyList::vacant(alloc);
     let mut terms = JoinedTerms::vacant(alloc);
+    let mut before = None;
     for _turn in 0..u64::MAX {
-        let Some(key) = least_key(walks) else {
+        let Some(front) = next_front(walks, before) else {
             return Ok(terms.finish());
         };
-        let kept = keeps_places(schema, key);
+        let kept = keeps_places(schema, front.key);
         list.clear();
-        match gather_key(views, numbers, walks, key, kept, &mut list) {
-            Ok(()) => terms.take(alloc, key, kept, &list)?,
+        match gather_front(views, numbers, walks, front, kept, &mut list) {
+            Ok(alone) => {
+                before = alone;
+                terms.take(alloc, front.key, kept, &list)?;
+            }
             Err(fault) => return Err(fault),
         }
     }

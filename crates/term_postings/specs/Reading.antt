@@ -268,6 +268,13 @@ IsPast document (Some given) = given < document
 abbrev pub skipped_behind : ℕ → List ℕ → ℕ → Result ℕ Corrupt
 skipped_behind count positions at = if nat_lt (length positions) at then corrupt_at (length positions) else numbers_behind count positions at
 
+-- the bytes of positions behind those that were passed over, which may be past the end
+abbrev pub bytes_behind : Place → List ℕ → Result (List ℕ) Corrupt
+bytes_behind place positions = numbers_behind place.skipped positions (min place.at (length positions)) >>= λ at. Ok (drop at positions)
+
+abbrev pub bytes_left : Walk → Result (List ℕ) Corrupt
+bytes_left w = unless w.source.fault (bytes_behind w.place w.source.positions)
+
 -- the next position, and where the one behind it is found
 unfoldable pub position_at : List ℕ → Place → Result (ℕ × Place) Corrupt
 position_at positions place = do

@@ -74,7 +74,8 @@ fn read_count(postings: &[u8], at: usize, counted: bool) -> Result<(u64, usize),
 
 impl<'a> Cursor<'a> {
     ghost use Rattle.term_postings.specs.Cursors.{StandsBefore, StandsAt, StandsFrom, IsHeadOf, first_positions, first_document, from_document, first_number, PassesMany, GivesMany};
-    ghost use Rattle.term_postings.specs.Reading.{walk, answered, reached, starting, over_of, passed_one, left_by, in_block, step_of, next_of, LeavesBlocks, IsSought, IsPast, last_given, next_position_of, passed_many, passed_all, last_of, next_block_of, PutsInFront};
+    ghost use Rattle.byte_fields.specs.Steps.{Gives};
+    ghost use Rattle.term_postings.specs.Reading.{walk, answered, reached, bytes_left, starting, over_of, passed_one, left_by, in_block, step_of, next_of, LeavesBlocks, IsSought, IsPast, last_given, next_position_of, passed_many, passed_all, last_of, next_block_of, PutsInFront};
 
     /// Before the first of `docs` documents. Both slices begin where the term's bytes start.
     pub fn over(
@@ -263,6 +264,32 @@ impl<'a> Cursor<'a> {
         let (position, place) = read_position(self.positions, self.place)?;
         self.place = place;
         Ok(Some(position))
+    }
+
+    /// How many positions of the document given last are to come.
+    #[inline]
+    pub fn position_count(&self) -> u64
+        ensures only { (after : List Posting) (left : List ℕ) → StandsBefore true self.now after left → result ≡ length left }
+        // Over any bytes.
+        ensures exact { result ≡ (walk self.now).place.count }
+    {
+        self.place.count
+    }
+
+    /// The bytes of the positions to come, where none of the document given last is: those of the documents to come, and what
+    /// stands behind them.
+    pub fn position_bytes(&self) -> Result<&'a [u8], Corrupt>
+        ensures only { (after : List Posting) → StandsBefore true self.now after []
+            → IsOkAnd result (λ bytes. (behind : List ℕ) × (bytes.now ≡ position_bytes after ++ behind)) }
+        // Over any bytes, and which fault it is.
+        ensures exact { Gives (λ bytes. bytes.now) result (bytes_left (walk self.now)) }
+    {
+        if let Some(corrupt) = self.fault {
+            return Err(corrupt);
+        }
+        let from = self.place.at.min(self.positions.len() as u64);
+        let at = behind_numbers(self.positions, from, self.place.skipped)?;
+        Ok(&self.positions[at..])
     }
 
     // Leaves the blocks whose last document is below a document.

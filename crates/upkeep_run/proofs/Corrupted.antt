@@ -4,7 +4,6 @@ use Rattle.std.specs.Prelude.{IfErr, IsErr, length, slice_get}
 use Rattle.std.specs.declared.alloc.AllocError.{AllocError}
 use Rattle.std.specs.List.{AllZip}
 use Rattle.std.proofs.lemmas.Bool.{and_parts, eqb-true}
-use Rattle.delete_tasks.specs.Removes.{DeleteTask}
 use Rattle.doc_sets.specs.Faults.{IsMemory}
 use Rattle.doc_sets.specs.declared.leaf_error.LeafError.{LeafError}
 use Rattle.doc_sets.specs.declared.leaf_error.LeafError.TheVariants as leaf
@@ -358,13 +357,13 @@ left_corrupt config work Gave dropped (Build x) none merges told is key e =
     build_none ds (build.TooLarge weight) h = h
 
 -- nothing was to be done
-pub nothing_close : (row : Option PlanRow) (file : Option (List ℕ)) (Gave : Answered → Type 0) (config : IndexConfig) (tasks : List DeleteTask) (work : HeldWork) → CorruptClose row file Gave config tasks work (Ok said.Nothing)
-nothing_close row file Gave config tasks work = by row file
+pub nothing_close : (row : Option PlanRow) (file : Option (List ℕ)) (Gave : Answered → Type 0) (config : IndexConfig) (work : HeldWork) → CorruptClose row file Gave config work (Ok said.Nothing)
+nothing_close row file Gave config work = by row file
   where
     never : {A : Type 0} (key : List ℕ) → IsCorrupt (Ok said.Nothing) key → A
     never key e = absurd (cc e)
 
-    by : (row : Option PlanRow) (file : Option (List ℕ)) → CorruptClose row file Gave config tasks work (Ok said.Nothing)
+    by : (row : Option PlanRow) (file : Option (List ℕ)) → CorruptClose row file Gave config work (Ok said.Nothing)
     by None file = λ key e. never key e
     by (Some row) None = λ key e. never key e
     by (Some row) (Some bytes) = λ key e. never key e
@@ -376,6 +375,6 @@ unasked_corrupt number (leaf.Missing at) Unasked (inr un) told is key e = (same_
 unasked_corrupt number (leaf.Corrupt section) Unasked (inl memory) told is key e = absurd memory
 unasked_corrupt number (leaf.Corrupt section) Unasked (inr un) told is key e = (same_key (split_key number) key (sym is ∙ e), un)
 
-pub corrupt_delete : {W : Type 0} (configured : W → IndexConfig) (tasks_kept : W → List DeleteTask) (Answers : W → Answered → W → Type 0) (before : HeldPlace) (told : Told) (old new : W) (at : HeldPlace) → before ≡ at →
-    CorruptDeleteFrom at (λ call. Answers old call new) (configured old) (tasks_kept old) told → CorruptDelete configured tasks_kept Answers before told old new
-corrupt_delete configured tasks_kept Answers before told old new at e h = subst (λ (p : HeldPlace). CorruptDeleteFrom p (λ call. Answers old call new) (configured old) (tasks_kept old) told) (sym e) h
+pub corrupt_delete : {W : Type 0} (configured : W → IndexConfig) (Answers : W → Answered → W → Type 0) (before : HeldPlace) (told : Told) (old new : W) (at : HeldPlace) → before ≡ at →
+    CorruptDeleteFrom at (λ call. Answers old call new) (configured old) told → CorruptDelete configured Answers before told old new
+corrupt_delete configured Answers before told old new at e h = subst (λ (p : HeldPlace). CorruptDeleteFrom p (λ call. Answers old call new) (configured old) told) (sym e) h

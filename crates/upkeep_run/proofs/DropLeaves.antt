@@ -2,22 +2,15 @@
 use Rattle.std.proofs.Common.{◌≡◌, ℕ, ◌+◌, ◌<◌, ◌≤◌, ◌==◌, Bool, true, false, inl, inr, Vec, List, [], ◌∷◌, drop, length, map, refl, sym, ap, ap₂, ◌∙◌, subst, arith, append-nil, Ok, Err, Option, Some, None, Result}
 use Rattle.std.proofs.lemmas.Bool.{eqb-true}
 use Rattle.std.specs.List.{AllZip}
-use Rattle.std.specs.Option.{IfSome}
 use Rattle.std.specs.Prelude.{slice_get, ◌⊎◌, IfOk, MatchResult}
 use Rattle.delete_tasks.specs.Removes.{DeleteTask}
 use Rattle.doc_sets.specs.Faults.{IsMemory}
 use Rattle.doc_sets.specs.declared.leaf_error.LeafError.{LeafError}
 use Rattle.doc_sets.specs.declared.leaf_error.LeafError.TheVariants as leaf
-use Rattle.doc_value.specs.Documents.{IsDynamic}
 use Rattle.doc_value.specs.declared.schema.Schema.{Schema}
-use Rattle.index_config.specs.declared.config.IndexConfig.{IndexConfig}
-use Rattle.meta_store.proofs.Current.{tasks_agree}
-use Rattle.meta_store.proofs.Tallied.{tallied}
 use Rattle.meta_store.specs.History.{history}
-use Rattle.meta_store.specs.Laws.{NumberedFrom}
 use Rattle.meta_store.specs.Ledgers.{ledger}
 use Rattle.meta_store.specs.Planning.{worked_row}
-use Rattle.meta_store.specs.Tasks.{tasks_of}
 use Rattle.meta_store.specs.declared.planning.PlanRow.{PlanRow}
 use Rattle.source_checkpoint.specs.declared.delta.Part.{Part}
 use Rattle.source_checkpoint.specs.declared.span.Span.{Span}
@@ -27,26 +20,24 @@ use Rattle.split_bundle.specs.declared.placed.Placed.{Placed}
 use Rattle.split_merge.specs.Keeping.{RiseFrom}
 use Rattle.split_merge.specs.Keeping as keeping
 use Rattle.split_states.specs.declared.rows.Row.{Row}
-use Rattle.index_world.proofs.Asking.{begun_history}
-use Rattle.index_world.proofs.Numbers.{revision_is}
+use Rattle.meta_store.specs.Left.{mark_of}
+use Rattle.index_world.proofs.Dropping.{left_alike as same_left}
 use Rattle.index_world.specs.Config.{reads}
-use Rattle.index_world.specs.Configuration.{configuration, index_of}
-use Rattle.index_world.specs.Core.{Core, IsConfigured}
-use Rattle.index_world.specs.Gate.{IsSoundCore}
+use Rattle.index_world.specs.Core.{Core}
+use Rattle.index_world.specs.PlanTasks.{least_of, plan_tasks, spans_in, spans_of}
 use Rattle.index_world.specs.Replacing.{joined, left_in}
 use Rattle.index_world.specs.SplitFile.{file_of}
-use Rattle.upkeep_run.specs.Dropping.{AreAsked, DropsOf, IsDropSet, IsUnasked, least_of}
-use Rattle.upkeep_run.specs.Ending.{spans_of, tasks_asked as asked_of}
+use Rattle.upkeep_run.specs.Dropping.{AreAsked, DropsOf, IsDropSet, IsUnasked}
 use Rattle.upkeep_run.specs.Judging.{AreSplits}
 use Rattle.upkeep_run.specs.Places.{IsPlannedFor, IsRowInHand, IsWork, Work, marks_of, until_of}
 use Rattle.upkeep_run.specs.Standing.{LeavesOf, WorkStands}
+use Rattle.upkeep_run.specs.Steps.{choice_of}
+use Rattle.upkeep_run.specs.declared.work.Aim.{Aim}
 use Rattle.upkeep_run.specs.declared.work.Aim.TheVariants.{Deleting}
 use Rattle.upkeep_run.specs.declared.work.Work.{Work as HeldWork}
-use Rattle.upkeep_run.proofs.Asked.{asked_behind, tasks_asked}
+use Rattle.upkeep_run.proofs.Asked.{asked_behind}
 use Rattle.upkeep_run.proofs.DropSets.{left_alike}
-use Rattle.upkeep_run.proofs.Holding.{sound_legal}
 use Rattle.upkeep_run.proofs.Merging.{all_files}
-use Rattle.upkeep_run.proofs.Planning.{config_is, same_config, seen_config}
 
 -- ---- the one row
 
@@ -75,75 +66,54 @@ one_row core log work i p =
     let o = one_of (IsRowInHand work.config (until_of work) log core) work.rows work.contents i.each p.some p.one in
     record { row = o.0; documents = o.1; rows = o.2; contents = o.3 }
 
--- ---- the tasks of a sound core
+-- ---- the tasks of a plan
 
-abbrev IfDynamic : IndexConfig → Type 0
-IfDynamic config = IfSome config.schema.dynamic (IsDynamic config.schema.fields)
+-- each of them can be asked of a split
+asked_all : (core : Core) (log : Log) (work : Work) → IsWork log core work → (bytes : List ℕ) (documents : List Placed) (n : ℕ) → IsSplit work.config.schema bytes documents → AreAsked work.config.schema (drop n work.tasks)
+asked_all core log work i bytes documents n split = asked_behind work.config.schema n work.tasks (i.asked split.is_split.are_documents.schema.dynamic)
 
-module _ (core : Core) (log : Log) (sound : IsSoundCore core log) where
-  abbrev T : List DeleteTask
-  T = (ledger reads (history core.history)).tasks
+module _ (core : Core) (log : Log) (work : Work) (i : IsWork log core work) (one : One work) where
+  -- WHAT IS DROPPED leaves what is to be left
+  pub drop_leaves : (dropped : List ℕ) → DropsOf work.config.schema one.row.spans (drop (least_of work.upto one.row.spans) work.tasks) work.upto (file_of work.config one.documents) dropped → LeavesOf core work dropped
+  drop_leaves dropped d = record { left = λ lists splits. left lists (as_one lists splits); count = λ lists splits. count lists (as_one lists splits) }
+    where
+      as_one : (lists : List (List Placed)) → AreSplits work.config.schema (map (file_of work.config) work.contents) lists → AreSplits work.config.schema (file_of work.config one.documents ∷ []) lists
+      as_one lists splits = subst (λ (cs : List (List Placed)). AreSplits work.config.schema (map (file_of work.config) cs) lists) one.contents splits
 
-  numbered : NumberedFrom 1 (ledger reads (history core.history)).tasks
-  numbered = subst (NumberedFrom 1) (sym (tasks_agree reads (history core.history))) (tallied reads (history core.history) (sound_legal core log sound)).numbered
+      drop_set : (documents : List Placed) → IsSplit work.config.schema (file_of work.config one.documents) documents →
+          IsDropSet work.config.schema one.row.spans (drop (least_of work.upto one.row.spans) work.tasks) work.upto documents dropped
+      drop_set documents split = d.of documents split (asked_all core log work i (file_of work.config one.documents) documents (least_of work.upto one.row.spans) split)
 
-  -- each of them can be asked of a split
-  asked_all : (config : IndexConfig) (bytes : List ℕ) (documents : List Placed) (n : ℕ) → IsConfigured config core → IsSplit config.schema bytes documents → AreAsked config.schema (drop n (ledger reads (history core.history)).tasks)
-  asked_all config bytes documents n configured split =
-      let some = sound.opened in
-      let begun = begun_history (history core.history) (sound_legal core log sound) (let e = revision_is core.history in omega (arith, some, e)) in
-      let here : begun.config.settings.index ≡ config =
-      same_config (configuration core.history) begun.config.settings.index config (ap index_of begun.is) (seen_config core log sound ∙ ap Some (config_is core log config sound configured)) in
-      let dynamic = split.is_split.are_documents.schema.dynamic in
-      let asked = tasks_asked (history core.history) begun.config (subst (λ (c : IndexConfig). IfDynamic c) (sym here) dynamic) (sound_legal core log sound) begun.is in
-      asked_behind config.schema n (ledger reads (history core.history)).tasks
-      (subst (AreAsked config.schema) (sym (tasks_agree reads (history core.history))) (subst (λ (c : IndexConfig). AreAsked c.schema (tasks_of reads (history core.history))) here asked))
+      same_marks : joined (map marks_of work.rows) ≡ marks_of one.row
+      same_marks = ap (λ (rs : List Row). joined (map marks_of rs)) one.rows ∙ append-nil (marks_of one.row)
 
-  module _ (work : Work) (i : IsWork log core work) (one : One work) where
-    -- the tasks that are asked of the row's file
-    abbrev pub behind : List DeleteTask
-    behind = drop (least_of work.upto one.row.spans) (ledger reads (history core.history)).tasks
+      left : (lists : List (List Placed)) → AreSplits work.config.schema (file_of work.config one.documents ∷ []) lists →
+          keeping.kept dropped (keeping.joined lists) ≡ left_in work.config (ledger reads (history core.history)).tasks work.upto (joined (map marks_of work.rows)) (joined lists)
+      left [] h = absurd h
+      left (ds ∷ other ∷ lists) h = absurd h.1
+      left (ds ∷ []) h =
+          ap (keeping.kept dropped) (append-nil ds) ∙ (drop_set ds h.0).left ∙ left_alike work.config one.row.spans work.tasks work.upto ds i.numbered
+          ∙ same_left work.config (ledger reads (history core.history)).tasks work.tasks work.upto (map mark_of one.row.spans) ds i.covers
+          ∙ sym (ap₂ (λ (ms : List (Part × ℕ)) (xs : List Placed). left_in work.config (ledger reads (history core.history)).tasks work.upto ms xs) same_marks (append-nil ds))
 
-    -- WHAT IS DROPPED leaves what is to be left
-    pub drop_leaves : (dropped : List ℕ) → DropsOf work.config.schema one.row.spans (drop (least_of work.upto one.row.spans) (ledger reads (history core.history)).tasks) work.upto (file_of work.config one.documents) dropped → LeavesOf core work dropped
-    drop_leaves dropped d = record { left = λ lists splits. left lists (as_one lists splits); count = λ lists splits. count lists (as_one lists splits) }
-      where
-        as_one : (lists : List (List Placed)) → AreSplits work.config.schema (map (file_of work.config) work.contents) lists → AreSplits work.config.schema (file_of work.config one.documents ∷ []) lists
-        as_one lists splits = subst (λ (cs : List (List Placed)). AreSplits work.config.schema (map (file_of work.config) cs) lists) one.contents splits
+      count : (lists : List (List Placed)) → AreSplits work.config.schema (file_of work.config one.documents ∷ []) lists → length (keeping.kept dropped (keeping.joined lists)) + length dropped ≡ length (joined lists)
+      count [] h = absurd h
+      count (ds ∷ other ∷ lists) h = absurd h.1
+      count (ds ∷ []) h =
+          let same = ap (λ (l : List Placed). length (keeping.kept dropped l)) (append-nil ds) in
+          let many = ap (λ (l : List Placed). length l) (append-nil ds) in
+          let all = (drop_set ds h.0).count in
+          omega (arith, same, many, all)
 
-        drop_set : (documents : List Placed) → IsSplit work.config.schema (file_of work.config one.documents) documents →
-            IsDropSet work.config.schema one.row.spans (drop (least_of work.upto one.row.spans) (ledger reads (history core.history)).tasks) work.upto documents dropped
-        drop_set documents split = d.of documents split (asked_all work.config (file_of work.config one.documents) documents (least_of work.upto one.row.spans) i.configured split)
-
-        same_marks : joined (map marks_of work.rows) ≡ marks_of one.row
-        same_marks = ap (λ (rs : List Row). joined (map marks_of rs)) one.rows ∙ append-nil (marks_of one.row)
-
-        left : (lists : List (List Placed)) → AreSplits work.config.schema (file_of work.config one.documents ∷ []) lists →
-            keeping.kept dropped (keeping.joined lists) ≡ left_in work.config (ledger reads (history core.history)).tasks work.upto (joined (map marks_of work.rows)) (joined lists)
-        left [] h = absurd h
-        left (ds ∷ other ∷ lists) h = absurd h.1
-        left (ds ∷ []) h =
-            ap (keeping.kept dropped) (append-nil ds) ∙ (drop_set ds h.0).left ∙ left_alike work.config one.row.spans (ledger reads (history core.history)).tasks work.upto ds numbered
-            ∙ sym (ap₂ (λ (ms : List (Part × ℕ)) (xs : List Placed). left_in work.config (ledger reads (history core.history)).tasks work.upto ms xs) same_marks (append-nil ds))
-
-        count : (lists : List (List Placed)) → AreSplits work.config.schema (file_of work.config one.documents ∷ []) lists → length (keeping.kept dropped (keeping.joined lists)) + length dropped ≡ length (joined lists)
-        count [] h = absurd h
-        count (ds ∷ other ∷ lists) h = absurd h.1
-        count (ds ∷ []) h =
-            let same = ap (λ (l : List Placed). length (keeping.kept dropped l)) (append-nil ds) in
-            let many = ap (λ (l : List Placed). length l) (append-nil ds) in
-            let all = (drop_set ds h.0).count in
-            omega (arith, same, many, all)
-
-    -- tasks that can't be asked of the row's file: there are none
-    pub all_asked : IsUnasked work.config.schema (drop (least_of work.upto one.row.spans) (ledger reads (history core.history)).tasks) (file_of work.config one.documents) → ⊥
-    all_asked unasked =
-        let known = known_of work.rows work.contents one.rows one.contents i.each in
-        unasked one.documents known.split.stands (asked_all work.config (file_of work.config one.documents) one.documents (least_of work.upto one.row.spans) i.configured known.split.stands)
-      where
-        known_of : (rs : List Row) (cs : List (List Placed)) → rs ≡ one.row ∷ [] → cs ≡ one.documents ∷ [] → AllZip (IsRowInHand work.config (until_of work) log core) rs cs → IsRowInHand work.config (until_of work) log core one.row one.documents
-        known_of rs cs e f h =
-            (subst (λ (xs : List (List Placed)). AllZip (IsRowInHand work.config (until_of work) log core) (one.row ∷ []) xs) f (subst (λ (xs : List Row). AllZip (IsRowInHand work.config (until_of work) log core) xs cs) e h)).0
+  -- tasks that can't be asked of the row's file: there are none
+  pub all_asked : IsUnasked work.config.schema (drop (least_of work.upto one.row.spans) work.tasks) (file_of work.config one.documents) → ⊥
+  all_asked unasked =
+      let known = known_of work.rows work.contents one.rows one.contents i.each in
+      unasked one.documents known.split.stands (asked_all core log work i (file_of work.config one.documents) one.documents (least_of work.upto one.row.spans) known.split.stands)
+    where
+      known_of : (rs : List Row) (cs : List (List Placed)) → rs ≡ one.row ∷ [] → cs ≡ one.documents ∷ [] → AllZip (IsRowInHand work.config (until_of work) log core) rs cs → IsRowInHand work.config (until_of work) log core one.row one.documents
+      known_of rs cs e f h =
+          (subst (λ (xs : List (List Placed)). AllZip (IsRowInHand work.config (until_of work) log core) (one.row ∷ []) xs) f (subst (λ (xs : List Row). AllZip (IsRowInHand work.config (until_of work) log core) xs cs) e h)).0
 
 -- ---- as it was asked
 
@@ -185,12 +155,17 @@ module _ (core : Core) (log : Log) (held : HeldWork) (work : Work) (ws : WorkSta
     bytes_are = same_some bytes (file_of work.config one.documents) (sym file ∙ first_file)
 
     -- by the words of the call
-    pub asked_so : (P : Schema → List Span → List DeleteTask → ℕ → List ℕ → Type 0) (schema : Schema) (kept : List DeleteTask) → schema ≡ work.config.schema →
-        asked_of kept held.plan.upto row ≡ asked_of (ledger reads (history core.history)).tasks held.plan.upto row → P schema (spans_of row.work) (asked_of kept held.plan.upto row) held.plan.upto bytes →
-        P work.config.schema one.row.spans (drop (least_of work.upto one.row.spans) (ledger reads (history core.history)).tasks) work.upto (file_of work.config one.documents)
-    asked_so P schema kept same tasks h =
-        subst (λ (bs : List ℕ). P work.config.schema one.row.spans (drop (least_of work.upto one.row.spans) (ledger reads (history core.history)).tasks) work.upto bs) bytes_are
-        (subst (λ (u : ℕ). P work.config.schema one.row.spans (asked_of (ledger reads (history core.history)).tasks u (worked_row one.row)) u bytes) ws.upto
-        (subst (λ (r : PlanRow). P work.config.schema (spans_of r.work) (asked_of (ledger reads (history core.history)).tasks held.plan.upto r) held.plan.upto bytes) row_is
-        (subst (λ (ts : List DeleteTask). P work.config.schema (spans_of row.work) ts held.plan.upto bytes) tasks
-        (subst (λ (s : Schema). P s (spans_of row.work) (asked_of kept held.plan.upto row) held.plan.upto bytes) same h))))
+    module _ (p : IsPlannedFor Deleting work) where
+      tasks_are : held.plan.tasks ≡ drop (least_of held.plan.upto (spans_of row.work)) work.tasks
+      tasks_are =
+          ws.tasks ∙ ap (λ (aim : Aim). plan_tasks (choice_of aim) held.plan.upto held.plan.rows work.tasks) p.for_it
+          ∙ ap (λ (o : Option PlanRow). drop (least_of held.plan.upto (spans_in o)) work.tasks) there
+
+      pub asked_so : (P : Schema → List Span → List DeleteTask → ℕ → List ℕ → Type 0) (schema : Schema) → schema ≡ work.config.schema → P schema (spans_of row.work) held.plan.tasks held.plan.upto bytes →
+          P work.config.schema one.row.spans (drop (least_of work.upto one.row.spans) work.tasks) work.upto (file_of work.config one.documents)
+      asked_so P schema same h =
+          subst (λ (bs : List ℕ). P work.config.schema one.row.spans (drop (least_of work.upto one.row.spans) work.tasks) work.upto bs) bytes_are
+          (subst (λ (u : ℕ). P work.config.schema one.row.spans (drop (least_of u one.row.spans) work.tasks) u bytes) ws.upto
+          (subst (λ (r : PlanRow). P work.config.schema (spans_of r.work) (drop (least_of held.plan.upto (spans_of r.work)) work.tasks) held.plan.upto bytes) row_is
+          (subst (λ (ts : List DeleteTask). P work.config.schema (spans_of row.work) ts held.plan.upto bytes) tasks_are
+          (subst (λ (s : Schema). P s (spans_of row.work) held.plan.tasks held.plan.upto bytes) same h))))

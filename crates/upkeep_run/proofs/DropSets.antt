@@ -26,7 +26,8 @@ use Rattle.split_merge.specs.Keeping.{RiseFrom, is_named, kept, kept_from}
 use Rattle.index_world.specs.Replacing.{is_dropped_by, left_in}
 use Rattle.index_world.specs.Seen.{place_of}
 use Rattle.query_ast.specs.Askable.{CanAsk}
-use Rattle.upkeep_run.specs.Dropping.{AreAsked, HasDropped, IsAdmitted, IsDropSet, came_before, drops, holds, is_before, is_dropped, least_of}
+use Rattle.index_world.specs.PlanTasks.{least_of}
+use Rattle.upkeep_run.specs.Dropping.{AreAsked, HasDropped, IsAdmitted, IsDropSet, came_before, drops, holds, is_before, is_dropped}
 
 -- ---- the tests
 
@@ -421,10 +422,6 @@ take_more {X} xs n x there = ap (λ (m : ℕ). take m xs) (let e : n + 1 ≡ suc
         first : ◌≡◌ {A = Option X} (Some y) (Some x) → y ≡ x
         first e = cc e
     by (y ∷ ys) (suc n) there = ap (λ l. y ∷ l) (by ys n there)
-
-pub start_least : (upto : ℕ) (spans : List Span) → min upto (least_of upto (drop 0 spans)) ≡ least_of upto spans
-start_least upto [] = omega arith
-start_least upto (s ∷ spans) = let low = least_low upto (s ∷ spans) in omega (arith, low)
 
 pub item_there : {X : Type 0} (xs : List X) (n : ℕ) (d x : X) → n < length xs → x ≡ get_or xs n d → slice_get xs n ≡ Some x
 item_there [] n d x lt e = absurd (omega (arith, lt))

@@ -1,6 +1,5 @@
 -- How a step ends, by what its call answered.
-use Rattle.std.proofs.Common.{◌≡◌, List, refl, subst, sym, Ok, Err, Option}
-use Rattle.delete_tasks.specs.Removes.{DeleteTask}
+use Rattle.std.proofs.Common.{◌≡◌, refl, subst, sym, Ok, Err, Option}
 use Rattle.index_config.specs.declared.config.IndexConfig.{IndexConfig}
 use Rattle.index_world.specs.Answering.{Answered}
 use Rattle.object_store.specs.Store.{State as Kept}
@@ -30,7 +29,7 @@ pub ends_from : {W : Type 0} (told : W → Option Kept) (configured : W → Inde
     Ends (EndsFrom at (λ call. Answers old call new) (configured old) (told old) (told new)) result place → EndsStep told configured Answers before result place old new
 ends_from told configured Answers before result place old new at e h = subst (λ (p : HeldPlace). Ends (EndsFrom p (λ call. Answers old call new) (configured old) (told old) (told new)) result place) (sym e) h
 
-pub delete_ends : {W : Type 0} (told : W → Option Kept) (configured : W → IndexConfig) (tasks_kept : W → List DeleteTask) (Answers : W → Answered → W → Type 0) (before : HeldPlace) (result : Told) (place : HeldPlace) (old new : W) (at : HeldPlace) → before ≡ at →
-    Ends (EndsDeleteFrom at (λ call. Answers old call new) (configured old) (tasks_kept old) (told old) (told new)) result place → EndsDelete told configured tasks_kept Answers before result place old new
-delete_ends told configured tasks_kept Answers before result place old new at e h =
-    subst (λ (p : HeldPlace). Ends (EndsDeleteFrom p (λ call. Answers old call new) (configured old) (tasks_kept old) (told old) (told new)) result place) (sym e) h
+pub delete_ends : {W : Type 0} (told : W → Option Kept) (configured : W → IndexConfig) (Answers : W → Answered → W → Type 0) (before : HeldPlace) (result : Told) (place : HeldPlace) (old new : W) (at : HeldPlace) → before ≡ at →
+    Ends (EndsDeleteFrom at (λ call. Answers old call new) (configured old) (told old) (told new)) result place → EndsDelete told configured Answers before result place old new
+delete_ends told configured Answers before result place old new at e h =
+    subst (λ (p : HeldPlace). Ends (EndsDeleteFrom p (λ call. Answers old call new) (configured old) (told old) (told new)) result place) (sym e) h

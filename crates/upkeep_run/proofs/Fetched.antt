@@ -146,6 +146,7 @@ module _ (core : Core) (log : Log) (held : HeldWork) (work : Work) (said_row : P
               rows = ws.rows;
               moment = ws.moment;
               upto = ws.upto;
+              tasks = ws.tasks;
               within = (let at = step in let within = next.within in omega (arith, at, within));
               files = ap₂ (λ fs b. fs ++ b ∷ []) ws.files is_whole ∙ sym (map-append (file_of work.config) (take held.next work.contents) (next.documents ∷ []))
                   ∙ ap (map (file_of work.config)) (sym next.taken) ∙ ap (λ n. map (file_of work.config) (take n work.contents)) (sym step);
@@ -158,7 +159,7 @@ module _ (core : Core) (log : Log) (held : HeldWork) (work : Work) (said_row : P
         more_is_work : IsWork log met.after (record work { unfetched = drop (suc held.next) work.rows })
         more_is_work =
             let w = work_stays core met.after log goes (sound_legal met.after log (sound met.after met.stands.0)) work i in
-            record { configured = w.configured; each = w.each; fits = w.fits; few = w.few; known = w.known }
+            record { configured = w.configured; each = w.each; fits = w.fits; few = w.few; known = w.known; numbered = w.numbered; asked = w.asked; covers = w.covers }
 
         takes : (kept : HeldPlace) (answered : Result Said AllocError) → Ends (TellsJudged said_row held piece.bytes true) answered kept → Steps answered kept
         takes kept (Err refused) is =
@@ -169,7 +170,7 @@ module _ (core : Core) (log : Log) (held : HeldWork) (work : Work) (said_row : P
             (fetch_called (Some (outcomes.Fetched next.row.number)) (λ short. absurd (subst IsShort was short)))
             (fetch_did false met.answer met.did ∙ ap (λ a. or_short false (fetch_by a work next.row.number (drop (suc held.next) work.rows) met.after)) given.0)
             (subst (λ o. Answers (Ok o) (Some (outcomes.Fetched next.row.number))) (sym both.0) (ap outcomes.Fetched next_number))
-            (subst (λ k. PlaceStands aim log met.after k (fetching (record work { unfetched = drop (suc held.next) work.rows }))) (sym both.1) (record work { unfetched = drop (suc held.next) work.rows }, refl, more_stands, more_is_work, record { some = for_aim.some; apart = for_aim.apart; one = for_aim.one }))
+            (subst (λ k. PlaceStands aim log met.after k (fetching (record work { unfetched = drop (suc held.next) work.rows }))) (sym both.1) (record work { unfetched = drop (suc held.next) work.rows }, refl, more_stands, more_is_work, record { some = for_aim.some; apart = for_aim.apart; one = for_aim.one; for_it = for_aim.for_it }))
             (λ n st e. cc)
 
     -- as the gate is asked

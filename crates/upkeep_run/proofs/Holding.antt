@@ -1,5 +1,5 @@
 -- What a worker holds, from one call of a world to the next.
-use Rattle.std.proofs.Common.{◌≡◌, ℕ, List, [], ◌∷◌, sym, subst}
+use Rattle.std.proofs.Common.{◌≡◌, ℕ, List, [], ◌∷◌, sym, ◌∙◌, subst}
 use Rattle.meta_store.specs.History.{history}
 use Rattle.meta_store.specs.Ledgers.{ledger}
 use Rattle.meta_store.specs.State.{Legal}
@@ -51,6 +51,9 @@ module _ (core after : Core) (log : Log) (g : GoesFor Nobody core after) (legal 
         fits = w.fits;
         few = w.few;
         known = known_on Nobody core after g.grown.0 g.grown.1 legal g.keeps work.upto w.known;
+        numbered = w.numbered;
+        asked = w.asked;
+        covers = λ x n. w.covers x n ∙ sym (same_cover Nobody core after g.grown.0 g.grown.1 legal g.keeps work.config work.upto w.known x n);
       }
 
   pub made_stays : (held : WorkerHeld) → IsHeldMade log core held → IsHeldMade log after held

@@ -40,6 +40,7 @@ use Rattle.index_world.specs.CallsMade.{CallMade, IsShort, of_raise, of_stage}
 use Rattle.index_world.specs.Config.{reads}
 use Rattle.index_world.specs.Core.{Core, IsConfigured, IsOther, Nobody, journal_of}
 use Rattle.index_world.specs.Gate.{Does, IsRevision, IsSoundCore, IsStagedIn, IsUnmade, Says, WasStaged, raise_call, stage_call}
+use Rattle.index_world.specs.PlanTasks.{spans_of}
 use Rattle.index_world.specs.Replacing.{AreFilesOf, IsRaisable, joined, left_in, numbers_of}
 use Rattle.index_world.specs.Seen.{rejected_in}
 use Rattle.index_world.specs.SplitFile.{facts_of, file_of, most}
@@ -48,7 +49,7 @@ use Rattle.index_world.specs.declared.tokens.Staged.{Staged}
 use Rattle.index_world.specs.declared.world_error.WorldError.{WorldError}
 use Rattle.upkeep_run.specs.Asking.{ask_at_work, ask_of}
 use Rattle.upkeep_run.specs.Dropping.{DropsOf, IsUnasked}
-use Rattle.upkeep_run.specs.Ending.{Ends, EndsDrop, EndsDropped, EndsLeft, EndsRaise, Told, facts_said, lost_said, raised_said, rejected_said, spans_of, tasks_asked, unasked_said, unstaged_said}
+use Rattle.upkeep_run.specs.Ending.{Ends, EndsDrop, EndsDropped, EndsLeft, EndsRaise, Told, facts_said, lost_said, raised_said, rejected_said, unasked_said, unstaged_said}
 use Rattle.upkeep_run.specs.Judging.{AreSplits}
 use Rattle.upkeep_run.specs.Outcomes as outcomes
 use Rattle.upkeep_run.specs.Outcomes.{UpkeepOutcome}
@@ -452,26 +453,25 @@ module _ (core : Core) (log : Log) (held : HeldWork) (work : Work) (ws : WorkSta
 
 -- what was dropped leaves what is to be left
 module _ (core : Core) (log : Log) (held : HeldWork) (work : Work) (ws : WorkStands held work) (i : IsWork log core work) (p : IsPlannedFor Deleting work) (done : work.unfetched ≡ []) (sound : IsSoundCore core log)
-    (row : PlanRow) (bytes : List ℕ) (there : slice_get held.plan.rows 0 ≡ Some row) (file : slice_get held.files 0 ≡ Some bytes) (config : IndexConfig) (configured : IsConfigured config core) (kept : List DeleteTask)
-    (tasks : tasks_asked kept held.plan.upto row ≡ tasks_asked (ledger reads (history core.history)).tasks held.plan.upto row) where
+    (row : PlanRow) (bytes : List ℕ) (there : slice_get held.plan.rows 0 ≡ Some row) (file : slice_get held.files 0 ≡ Some bytes) (config : IndexConfig) (configured : IsConfigured config core) where
   planned_one : One work
   planned_one = one_row core log work i p
 
   same_schema : config.schema ≡ work.config.schema
   same_schema = ap (λ (k : IndexConfig). k.schema) (same_config (configuration (journal_of core)) config work.config configured i.configured)
 
-  pub leaves_as : (dropped : List ℕ) → DropsOf config.schema (spans_of row.work) (tasks_asked kept held.plan.upto row) held.plan.upto bytes dropped → LeavesOf core work dropped
+  pub leaves_as : (dropped : List ℕ) → DropsOf config.schema (spans_of row.work) held.plan.tasks held.plan.upto bytes dropped → LeavesOf core work dropped
   leaves_as dropped d =
-      drop_leaves core log sound work i planned_one dropped
-      (asked_so core log held work ws i done planned_one row bytes there file (λ s spans ts upto bs. DropsOf s spans ts upto bs dropped) config.schema kept same_schema tasks d)
+      drop_leaves core log work i planned_one dropped
+      (asked_so core log held work ws i done planned_one row bytes there file p (λ s spans ts upto bs. DropsOf s spans ts upto bs dropped) config.schema same_schema d)
 
-  asked_never : IsUnasked config.schema (tasks_asked kept held.plan.upto row) bytes → ⊥
+  asked_never : IsUnasked config.schema held.plan.tasks bytes → ⊥
   asked_never unasked =
-      all_asked core log sound work i planned_one
-      (asked_so core log held work ws i done planned_one row bytes there file (λ s spans ts upto bs. IsUnasked s ts bs) config.schema kept same_schema tasks unasked)
+      all_asked core log work i planned_one
+      (asked_so core log held work ws i done planned_one row bytes there file p (λ s spans ts upto bs. IsUnasked s ts bs) config.schema same_schema unasked)
 
   -- so nothing but want of memory hinders
-  pub want_alone : (error : LeafError) → IsMemory error ⊎ IsUnasked config.schema (tasks_asked kept held.plan.upto row) bytes → (number : ℕ) (answered : Told) → answered ≡ unasked_said number error → Answers answered None
+  pub want_alone : (error : LeafError) → IsMemory error ⊎ IsUnasked config.schema held.plan.tasks bytes → (number : ℕ) (answered : Told) → answered ≡ unasked_said number error → Answers answered None
   want_alone error (inr unasked) number answered is = absurd (asked_never unasked)
   want_alone error (inl memory) number answered is = subst (λ (t : Told). Answers t None) (sym is) (by error memory)
     where
@@ -491,12 +491,12 @@ module _ (row : PlanRow) (Gave : Answered → Type 0) (config : IndexConfig) (wo
   left_ends [] some h = absurd (some refl)
   left_ends (d ∷ dropped) some h = h
 
-  module _ (tasks : List DeleteTask) (bytes : List ℕ) where
-    pub dropped_ends : (dropped : List ℕ) → DropsOf config.schema (spans_of row.work) (tasks_asked tasks work.plan.upto row) work.plan.upto bytes dropped → Ends (EndsDropped dropped row Gave config work) result place → Ends (EndsDrop row bytes Gave config tasks work) result place
-    dropped_ends dropped d h = ends_where (EndsDropped dropped row Gave config work) (EndsDrop row bytes Gave config tasks work) result place (λ outcome says. inr (dropped, d, says)) h
+  module _ (bytes : List ℕ) where
+    pub dropped_ends : (dropped : List ℕ) → DropsOf config.schema (spans_of row.work) work.plan.tasks work.plan.upto bytes dropped → Ends (EndsDropped dropped row Gave config work) result place → Ends (EndsDrop row bytes Gave config work) result place
+    dropped_ends dropped d h = ends_where (EndsDropped dropped row Gave config work) (EndsDrop row bytes Gave config work) result place (λ outcome says. inr (dropped, d, says)) h
 
-    pub unasked_ends : (error : LeafError) → IsMemory error ⊎ IsUnasked config.schema (tasks_asked tasks work.plan.upto row) bytes → result ≡ unasked_said row.number error → place ≡ places.Idle → Ends (EndsDrop row bytes Gave config tasks work) result place
-    unasked_ends error (inr unasked) is at_rest = ends_by (EndsDrop row bytes Gave config tasks work) result place at_rest (λ outcome e. inl (error, unasked, sym is ∙ e, at_rest))
-    unasked_ends (leaf.Memory a) (inl memory) is at_rest = ends_short (EndsDrop row bytes Gave config tasks work) result place (subst IsErr (sym is) refl) at_rest
+    pub unasked_ends : (error : LeafError) → IsMemory error ⊎ IsUnasked config.schema work.plan.tasks bytes → result ≡ unasked_said row.number error → place ≡ places.Idle → Ends (EndsDrop row bytes Gave config work) result place
+    unasked_ends error (inr unasked) is at_rest = ends_by (EndsDrop row bytes Gave config work) result place at_rest (λ outcome e. inl (error, unasked, sym is ∙ e, at_rest))
+    unasked_ends (leaf.Memory a) (inl memory) is at_rest = ends_short (EndsDrop row bytes Gave config work) result place (subst IsErr (sym is) refl) at_rest
     unasked_ends (leaf.Missing at) (inl memory) is at_rest = absurd memory
     unasked_ends (leaf.Corrupt section) (inl memory) is at_rest = absurd memory

@@ -24,3 +24,4 @@ pub mod Asked
 pub mod DropSets
 pub mod DropLeaves
 pub mod Leaving
+pub mod Works

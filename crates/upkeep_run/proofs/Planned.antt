@@ -17,6 +17,7 @@ use Rattle.index_world.specs.Calls.{Fate, Trouble, asked_and_looked, gives}
 use Rattle.index_world.specs.CallsMade.{CallMade, IsShort, of_plan}
 use Rattle.index_world.specs.Core.{Core}
 use Rattle.index_world.specs.Gate.{Does, IsPlan, IsSoundCore, IsTrouble, Says}
+use Rattle.index_world.specs.PlanTasks.{plan_tasks}
 use Rattle.index_world.specs.SplitFile.{AreSplit, file_of}
 use Rattle.index_world.specs.declared.tokens.Plan.{Plan}
 use Rattle.index_world.specs.declared.world_error.WorldError.{WorldError}
@@ -113,6 +114,7 @@ module _ {W : Type 0} (Stands : W → Core → Log → Type 0) (Between : Core �
               rows = ap (λ (p : Plan). p.rows) same ∙ rows_are plan after w;
               moment = ap (λ (p : Plan). p.moment) same ∙ w.moment;
               upto = ap (λ (p : Plan). p.upto) same ∙ w.upto;
+              tasks = ap (λ (p : Plan). p.tasks) same ∙ w.tasks ∙ sym (ap (λ (p : Plan). plan_tasks (choice_of aim) p.upto p.rows work.tasks) same);
               within = omega (arith, first);
               files = none ∙ ap (λ n. map (file_of work.config) (take n work.contents)) (sym first);
               unfetched = ap (λ n. drop n work.rows) (sym first);

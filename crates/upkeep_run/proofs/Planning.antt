@@ -1,15 +1,21 @@
 -- The rows of a plan are in hand.
-use Rattle.std.proofs.Common.{◌≡◌, ℕ, ◌+◌, ◌≤◌, List, [], ◌∷◌, length, map, refl, sym, ap, ◌∙◌, inl, arith, true, Option, Some}
+use Rattle.std.proofs.Common.{◌≡◌, ℕ, ◌+◌, ◌≤◌, List, [], ◌∷◌, length, map, refl, sym, ap, ◌∙◌, subst, inl, arith, true, Option, Some}
 use Rattle.std.specs.List.{AllByRecursion, AllZip}
+use Rattle.std.specs.Option.{IfSome}
+use Rattle.doc_value.specs.Documents.{IsDynamic}
 use Rattle.index_config.specs.declared.config.IndexConfig.{IndexConfig}
 use Rattle.merge_policy.specs.Choice.{FitsSplit}
+use Rattle.meta_store.proofs.Current.{tasks_agree}
 use Rattle.meta_store.proofs.Numbers.{each_found}
 use Rattle.meta_store.proofs.RowLists.{AllOf-both}
 use Rattle.meta_store.proofs.Sound.{sound}
+use Rattle.meta_store.proofs.Tallied.{tallied}
 use Rattle.meta_store.specs.History.{history, last_opstamp}
+use Rattle.meta_store.specs.Laws.{NumberedFrom}
 use Rattle.meta_store.specs.Ledgers.{ledger}
 use Rattle.meta_store.specs.Readings.{config_of}
 use Rattle.meta_store.specs.Rows.{rows}
+use Rattle.meta_store.specs.Tasks.{tasks_of}
 use Rattle.source_log.specs.Log.{Log}
 use Rattle.split_states.specs.Rows.{is_published, row_at}
 use Rattle.split_states.specs.declared.rows.Row.{Row}
@@ -30,6 +36,8 @@ use Rattle.index_world.specs.Seen.{rejected_in}
 use Rattle.std.proofs.lemmas.List.Sums.{sum_by-cons}
 use Rattle.split_bundle.specs.Documents.{total_weight}
 use Rattle.split_states.specs.declared.facts.RowFacts.{RowFacts}
+use Rattle.upkeep_run.specs.Dropping.{AreAsked}
+use Rattle.upkeep_run.proofs.Asked.{tasks_asked}
 use Rattle.upkeep_run.proofs.Making.{docs_are, weight_is}
 use Rattle.upkeep_run.specs.Places.{IsPlannedFor, IsRowInHand, IsWork}
 use Rattle.upkeep_run.specs.Steps.{config_in, contents_in, rows_in, work_in}
@@ -110,15 +118,28 @@ module _ (core : Core) (log : Log) (s : IsSoundCore core log) where
       let other = sum_by-cons (λ (r : Row). r.facts.weight) row [] in
       record { docs = omega (arith, few, docs, one); weight = omega (arith, light, weight, other) }
 
+  -- the tasks that stand are numbered, and each of them can be asked
+  all_numbered : NumberedFrom 1 (ledger reads (history core.history)).tasks
+  all_numbered = subst (NumberedFrom 1) (sym (tasks_agree reads (history core.history))) (tallied reads (history core.history) (sound_legal core log s)).numbered
+
+  all_asked : IfSome (config_in core).schema.dynamic (IsDynamic (config_in core).schema.fields) → AreAsked (config_in core).schema (ledger reads (history core.history)).tasks
+  all_asked dynamic =
+      let some = s.opened in
+      let begun = begun_history (history core.history) (sound_legal core log s) (let e = revision_is core.history in omega (arith, some, e)) in
+      let here : begun.config.settings.index ≡ config_in core =
+      same_config (configuration core.history) begun.config.settings.index (config_in core) (ap index_of begun.is) (seen_config core log s) in
+      let asked = tasks_asked (history core.history) begun.config (subst (λ (c : IndexConfig). IfSome c.schema.dynamic (IsDynamic c.schema.fields)) (sym here) dynamic) (sound_legal core log s) begun.is in
+      subst (AreAsked (config_in core).schema) (sym (tasks_agree reads (history core.history))) (subst (λ (c : IndexConfig). AreAsked c.schema (tasks_of reads (history core.history))) here asked)
+
   -- WHAT IS PLANNED is work in hand
   pub plan_is_work : (aim : Aim) → IsWork log core (work_in aim log core)
   plan_is_work Merging =
       let r = merge_rows InHand (rows (history core.history)) each_row (config_of reads (history core.history)) core.moment (last_opstamp (history core.history)) in
-      record { configured = config_stands core log s; each = zipped (rows_in Merging core) r.0; fits = r.1; few = r.2; known = omega arith }
+      record { configured = config_stands core log s; each = zipped (rows_in Merging core) r.0; fits = r.1; few = r.2; known = omega arith; numbered = all_numbered; asked = all_asked; covers = λ x n. refl }
   plan_is_work Deleting =
       let r = delete_rows InHand (rows (history core.history)) each_row (config_of reads (history core.history)) core.moment (last_opstamp (history core.history)) in
       let few = r.1 in
-      record { configured = config_stands core log s; each = zipped (rows_in Deleting core) r.0; fits = one_fits (rows_in Deleting core) r.0 few; few = omega (arith, few); known = omega arith }
+      record { configured = config_stands core log s; each = zipped (rows_in Deleting core) r.0; fits = one_fits (rows_in Deleting core) r.0 few; few = omega (arith, few); known = omega arith; numbered = all_numbered; asked = all_asked; covers = λ x n. refl }
 
   -- each of its rows once, and of deletes one
   pub plan_is_for : (aim : Aim) → (rows_in aim core ≡ [] → ⊥) → IsPlannedFor aim (work_in aim log core)
@@ -128,10 +149,12 @@ module _ (core : Core) (log : Log) (s : IsSoundCore core log) where
         some = some;
         apart = merge_once (rows (history core.history)) (rows_apart (rows (history core.history)) apart) (each_found (rows (history core.history)) apart) (config_of reads (history core.history)) core.moment (last_opstamp (history core.history));
         one = tt;
+        for_it = refl;
       }
   plan_is_for Deleting some =
       record {
         some = some;
         apart = delete_once (rows (history core.history)) (config_of reads (history core.history)) core.moment (last_opstamp (history core.history));
         one = (delete_rows InHand (rows (history core.history)) each_row (config_of reads (history core.history)) core.moment (last_opstamp (history core.history))).1;
+        for_it = refl;
       }

@@ -1,7 +1,6 @@
 -- When a planned row's file is told as corrupt, whatever a gate tells.
 use Rattle.std.specs.Prelude.{◌≡◌, ◌⊎◌, ℕ, List, Option, Some, None, Result, Ok, Err, IsErr, slice_get}
 use Rattle.doc_value.specs.declared.schema.Schema.{Schema}
-use Rattle.delete_tasks.specs.Removes.{DeleteTask}
 use Rattle.index_config.specs.declared.config.IndexConfig.{IndexConfig}
 use Rattle.meta_journal.specs.Places.{split_key}
 use Rattle.meta_store.specs.declared.planning.PlanRow.{PlanRow}
@@ -13,12 +12,12 @@ use Rattle.split_bundle.specs.Splits.{IsSplit}
 use Rattle.split_bundle.specs.declared.placed.Placed.{Placed}
 use Rattle.split_merge.specs.Keeping.{joined}
 use Rattle.std.specs.Prelude.{length}
-use Rattle.index_world.specs.Answering.{Answered, doom_answered, fetch_answered, list_answered, mark_stale_answered, marks_answered, moment_answered, plan_answered, publish_answered, raise_answered, remove_answered, replace_answered, stage_answered, sweep_answered, task_answered, upload_answered}
+use Rattle.index_world.specs.Answering.{Answered, doom_answered, fetch_answered, list_answered, mark_stale_answered, marks_answered, moment_answered, plan_answered, publish_answered, raise_answered, remove_answered, replace_answered, stage_answered, sweep_answered, task_answered, tasks_answered, upload_answered}
 use Rattle.index_world.specs.declared.world_error.WorldError.{WorldError}
 use Rattle.index_world.specs.declared.world_error.WorldError.TheVariants as errors
 use Rattle.upkeep_run.specs.Asking.{whole}
 use Rattle.upkeep_run.specs.Dropping.{IsUnasked}
-use Rattle.upkeep_run.specs.Ending.{Told, corrupt_said, number_at, tasks_asked}
+use Rattle.upkeep_run.specs.Ending.{Told, corrupt_said, number_at}
 use Rattle.upkeep_run.specs.Judging.{AreSplits}
 use Rattle.upkeep_run.specs.declared.outcome.UpkeepOutcome.TheVariants as said
 use Rattle.upkeep_run.specs.declared.work.WorkerPlace.{WorkerPlace as HeldPlace}
@@ -45,6 +44,7 @@ error_of (replace_answered new old upto result) = error_in result
 error_of (raise_answered number upto result) = error_in result
 error_of (task_answered ask result) = error_in result
 error_of (plan_answered choice result) = error_in result
+error_of (tasks_answered upto result) = None
 error_of (mark_stale_answered result) = error_in result
 error_of (doom_answered result) = error_in result
 error_of (remove_answered result) = error_in result
@@ -135,21 +135,21 @@ abbrev pub LeftFault : (Answered → Type 0) → IndexConfig → HeldWork → Li
 LeftFault Gave config work key = GaveCorrupt Gave key ⊎ IsNone config.schema work key ⊎ ((key ≡ split_key (number_at work.plan.rows 0)) × PassLimits config.schema work.files)
 
 -- or the row's file is no split of documents of which all tasks can be asked
-abbrev pub CorruptClose : Option PlanRow → Option (List ℕ) → (Answered → Type 0) → IndexConfig → List DeleteTask → HeldWork → Told → Type 0
-CorruptClose None file Gave config tasks work told = OnlyGiven Gave told
-CorruptClose (Some row) None Gave config tasks work told = OnlyGiven Gave told
-CorruptClose (Some row) (Some bytes) Gave config tasks work told =
-    (key : List ℕ) → IsCorrupt told key → ((key ≡ split_key row.number) × IsUnasked config.schema (tasks_asked tasks work.plan.upto row) bytes) ⊎ LeftFault Gave config work key
+abbrev pub CorruptClose : Option PlanRow → Option (List ℕ) → (Answered → Type 0) → IndexConfig → HeldWork → Told → Type 0
+CorruptClose None file Gave config work told = OnlyGiven Gave told
+CorruptClose (Some row) None Gave config work told = OnlyGiven Gave told
+CorruptClose (Some row) (Some bytes) Gave config work told =
+    (key : List ℕ) → IsCorrupt told key → ((key ≡ split_key row.number) × IsUnasked config.schema work.plan.tasks bytes) ⊎ LeftFault Gave config work key
 
-abbrev pub CorruptDeleteAt : Option PlanRow → (Answered → Type 0) → IndexConfig → List DeleteTask → HeldWork → Told → Type 0
-CorruptDeleteAt None Gave config tasks work told = CorruptClose (slice_get work.plan.rows 0) (slice_get work.files 0) Gave config tasks work told
-CorruptDeleteAt (Some row) Gave config tasks work told = CorruptFetch row Gave work told
+abbrev pub CorruptDeleteAt : Option PlanRow → (Answered → Type 0) → IndexConfig → HeldWork → Told → Type 0
+CorruptDeleteAt None Gave config work told = CorruptClose (slice_get work.plan.rows 0) (slice_get work.files 0) Gave config work told
+CorruptDeleteAt (Some row) Gave config work told = CorruptFetch row Gave work told
 
-abbrev pub CorruptDeleteFrom : HeldPlace → (Answered → Type 0) → IndexConfig → List DeleteTask → Told → Type 0
-CorruptDeleteFrom places.Idle Gave config tasks told = OnlyGiven Gave told
-CorruptDeleteFrom (places.Fetching work) Gave config tasks told = CorruptDeleteAt (slice_get work.plan.rows work.next) Gave config tasks work told
-CorruptDeleteFrom (places.Staged plan token bytes) Gave config tasks told = OnlyGiven Gave told
-CorruptDeleteFrom (places.Uploaded plan token) Gave config tasks told = OnlyGiven Gave told
+abbrev pub CorruptDeleteFrom : HeldPlace → (Answered → Type 0) → IndexConfig → Told → Type 0
+CorruptDeleteFrom places.Idle Gave config told = OnlyGiven Gave told
+CorruptDeleteFrom (places.Fetching work) Gave config told = CorruptDeleteAt (slice_get work.plan.rows work.next) Gave config work told
+CorruptDeleteFrom (places.Staged plan token bytes) Gave config told = OnlyGiven Gave told
+CorruptDeleteFrom (places.Uploaded plan token) Gave config told = OnlyGiven Gave told
 
-abbrev pub CorruptDelete : {W : Type 0} → (configured : W → IndexConfig) → (tasks_kept : W → List DeleteTask) → (Answers : W → Answered → W → Type 0) → (before : HeldPlace) → Told → (old new : W) → Type 0
-CorruptDelete configured tasks_kept Answers before told old new = CorruptDeleteFrom before (λ call. Answers old call new) (configured old) (tasks_kept old) told
+abbrev pub CorruptDelete : {W : Type 0} → (configured : W → IndexConfig) → (Answers : W → Answered → W → Type 0) → (before : HeldPlace) → Told → (old new : W) → Type 0
+CorruptDelete configured Answers before told old new = CorruptDeleteFrom before (λ call. Answers old call new) (configured old) told

@@ -1,5 +1,5 @@
 -- Which documents of a planned row's file are dropped: those that a task removes whose records were taken in before it.
-use Rattle.std.specs.Prelude.{◌≡◌, ◌+◌, ◌<◌, ◌≤◌, ◌&&◌, ℕ, zero, suc, Bool, false, not, List, [], ◌∷◌, filter, length, min, nat_le, nat_lt}
+use Rattle.std.specs.Prelude.{◌≡◌, ◌+◌, ◌<◌, ◌≤◌, ◌&&◌, ℕ, zero, suc, Bool, false, not, List, [], ◌∷◌, filter, length, nat_le, nat_lt}
 use Rattle.std.specs.List.{list_any}
 use Rattle.delete_tasks.specs.Removed.{Place, lies_in}
 use Rattle.delete_tasks.specs.Removes.{DeleteTask, removes}
@@ -46,11 +46,6 @@ place_at at = record { partition = at.partition; offset = at.offset }
 -- a number that tells before which tasks up to the last one that was
 abbrev pub IsAdmitted : List Span → (upto : ℕ) → Place → (admitted : ℕ) → Type 0
 IsAdmitted spans upto x admitted = (opstamp : ℕ) → opstamp ≤ upto → nat_lt admitted opstamp ≡ came_before spans x opstamp
-
--- the least task behind which a record of these spans was taken in, and at most the last one: tasks up to it drop none
-abbrev pub least_of : (upto : ℕ) → List Span → ℕ
-least_of upto [] = upto
-least_of upto (s ∷ spans) = min s.admitted (least_of upto spans)
 
 -- ---- the documents of a file
 

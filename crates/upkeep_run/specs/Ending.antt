@@ -1,7 +1,6 @@
 -- How a step ends, whatever its gate tells: what its call answered is told as itself.
-use Rattle.std.specs.Prelude.{◌≡◌, ◌⊎◌, ℕ, ◌+◌, ◌-◌, ◌^◌, min, Bool, true, false, List, [], ◌∷◌, ◌++◌, drop, length, sum_by, Option, Some, None, Result, Ok, Err, slice_get}
+use Rattle.std.specs.Prelude.{◌≡◌, ◌⊎◌, ℕ, ◌+◌, ◌-◌, ◌^◌, min, Bool, true, false, List, [], ◌∷◌, ◌++◌, length, sum_by, Option, Some, None, Result, Ok, Err, slice_get}
 use Rattle.std.specs.declared.alloc.AllocError.{AllocError}
-use Rattle.delete_tasks.specs.Removes.{DeleteTask}
 use Rattle.doc_sets.specs.declared.leaf_error.LeafError.{LeafError}
 use Rattle.doc_sets.specs.declared.leaf_error.LeafError.TheVariants as leaf
 use Rattle.index_config.specs.declared.config.IndexConfig.{IndexConfig}
@@ -10,7 +9,6 @@ use Rattle.meta_store.specs.declared.planning.PlanRow.{PlanRow}
 use Rattle.meta_store.specs.declared.planning.RowWork.{RowWork}
 use Rattle.object_store.specs.Store.{State, WhereTold}
 use Rattle.object_store.specs.declared.store.Piece.{Piece}
-use Rattle.source_checkpoint.specs.declared.span.Span.{Span}
 use Rattle.split_build.specs.declared.builder.BuiltSplit.{BuiltSplit}
 use Rattle.split_merge.specs.declared.merge_error.MergeError.{MergeError}
 use Rattle.split_merge.specs.declared.merge_error.MergeError.TheVariants.{Build, Memory, Split}
@@ -19,13 +17,14 @@ use Rattle.index_world.specs.Answering.{Answered, fetch_answered, plan_answered,
 use Rattle.index_world.specs.Asked.{Behind, FetchesFile, IsFetch, IsUpload, UploadsFile}
 use Rattle.index_world.specs.Replacing.{numbers_of}
 use Rattle.index_world.specs.SplitFile.{most}
+use Rattle.index_world.specs.PlanTasks.{spans_of}
 use Rattle.index_world.specs.declared.tokens.Plan.{Plan}
 use Rattle.index_world.specs.declared.tokens.Staged.{Staged}
 use Rattle.index_world.specs.declared.tokens.Uploaded.{Uploaded}
 use Rattle.index_world.specs.declared.world_error.WorldError.{WorldError}
 use Rattle.index_world.specs.declared.world_error.WorldError.TheVariants as errors
 use Rattle.upkeep_run.specs.Asking.{whole}
-use Rattle.upkeep_run.specs.Dropping.{DropsOf, IsUnasked, least_of}
+use Rattle.upkeep_run.specs.Dropping.{DropsOf, IsUnasked}
 use Rattle.upkeep_run.specs.Judging.{IsJudged, MergesFiles}
 use Rattle.upkeep_run.specs.Steps.{choice_of}
 use Rattle.upkeep_run.specs.declared.work.Aim.{Aim}
@@ -198,14 +197,6 @@ abbrev pub EndsRaise : (Answered → Type 0) → Plan → (number : ℕ) → Sai
 EndsRaise Gave plan number outcome place =
     (answer : Result ℕ WorldError) × Gave (raise_answered number plan.upto answer) × (raised_said number answer ≡ Ok outcome) × (place ≡ places.Idle)
 
-abbrev pub spans_of : Option RowWork → List Span
-spans_of None = []
-spans_of (Some work) = work.spans
-
--- the tasks of which some may drop a document of the row
-abbrev pub tasks_asked : List DeleteTask → (upto : ℕ) → PlanRow → List DeleteTask
-tasks_asked tasks upto row = drop (least_of upto (spans_of row.work)) tasks
-
 -- tasks that can't be asked of a file are told by its row
 abbrev pub unasked_said : (number : ℕ) → LeafError → Told
 unasked_said number (leaf.Memory refused) = Err refused
@@ -217,33 +208,33 @@ abbrev pub EndsDropped : (dropped : List ℕ) → PlanRow → (Answered → Type
 EndsDropped [] row Gave config work = EndsRaise Gave work.plan row.number
 EndsDropped (place ∷ places) row Gave config work = EndsLeft (place ∷ places) Gave config work
 
--- The tasks could not be asked of the row's file, and nothing was asked of the gate; or what they drop of it, by the row's spans up to the
--- plan's last task, is dropped.
-abbrev pub EndsDrop : PlanRow → (bytes : List ℕ) → (Answered → Type 0) → IndexConfig → List DeleteTask → HeldWork → Said → HeldPlace → Type 0
-EndsDrop row bytes Gave config tasks work outcome place =
-    ((error : LeafError) × IsUnasked config.schema (tasks_asked tasks work.plan.upto row) bytes × (unasked_said row.number error ≡ Ok outcome) × (place ≡ places.Idle))
-    ⊎ ((dropped : List ℕ) × DropsOf config.schema (spans_of row.work) (tasks_asked tasks work.plan.upto row) work.plan.upto bytes dropped
+-- The plan's tasks could not be asked of the row's file, and nothing was asked of the gate; or what they drop of it, by the row's spans up to
+-- the plan's last task, is dropped.
+abbrev pub EndsDrop : PlanRow → (bytes : List ℕ) → (Answered → Type 0) → IndexConfig → HeldWork → Said → HeldPlace → Type 0
+EndsDrop row bytes Gave config work outcome place =
+    ((error : LeafError) × IsUnasked config.schema work.plan.tasks bytes × (unasked_said row.number error ≡ Ok outcome) × (place ≡ places.Idle))
+    ⊎ ((dropped : List ℕ) × DropsOf config.schema (spans_of row.work) work.plan.tasks work.plan.upto bytes dropped
     × EndsDropped dropped row Gave config work outcome place)
 
 -- of the plan's first row; a plan without a row is nothing to do
-abbrev pub EndsClose : Option PlanRow → Option (List ℕ) → (Answered → Type 0) → IndexConfig → List DeleteTask → HeldWork → Said → HeldPlace → Type 0
-EndsClose None file Gave config tasks work outcome place = (outcome ≡ said.Nothing) × (place ≡ places.Idle)
-EndsClose (Some row) None Gave config tasks work outcome place = (outcome ≡ said.Nothing) × (place ≡ places.Idle)
-EndsClose (Some row) (Some bytes) Gave config tasks work outcome place = EndsDrop row bytes Gave config tasks work outcome place
+abbrev pub EndsClose : Option PlanRow → Option (List ℕ) → (Answered → Type 0) → IndexConfig → HeldWork → Said → HeldPlace → Type 0
+EndsClose None file Gave config work outcome place = (outcome ≡ said.Nothing) × (place ≡ places.Idle)
+EndsClose (Some row) None Gave config work outcome place = (outcome ≡ said.Nothing) × (place ≡ places.Idle)
+EndsClose (Some row) (Some bytes) Gave config work outcome place = EndsDrop row bytes Gave config work outcome place
 
-abbrev pub EndsDeleteAt : Option PlanRow → (Answered → Type 0) → IndexConfig → List DeleteTask → HeldWork → (old new : Option State) → Said → HeldPlace → Type 0
-EndsDeleteAt None Gave config tasks work old new = EndsClose (slice_get work.plan.rows 0) (slice_get work.files 0) Gave config tasks work
-EndsDeleteAt (Some row) Gave config tasks work old new = EndsFetch row Gave work old new
+abbrev pub EndsDeleteAt : Option PlanRow → (Answered → Type 0) → IndexConfig → HeldWork → (old new : Option State) → Said → HeldPlace → Type 0
+EndsDeleteAt None Gave config work old new = EndsClose (slice_get work.plan.rows 0) (slice_get work.files 0) Gave config work
+EndsDeleteAt (Some row) Gave config work old new = EndsFetch row Gave work old new
 
-abbrev pub EndsDeleteFrom : HeldPlace → (Answered → Type 0) → IndexConfig → List DeleteTask → (old new : Option State) → Said → HeldPlace → Type 0
-EndsDeleteFrom places.Idle Gave config tasks old new = EndsPlan Deleting Gave
-EndsDeleteFrom (places.Fetching work) Gave config tasks old new = EndsDeleteAt (slice_get work.plan.rows work.next) Gave config tasks work old new
-EndsDeleteFrom (places.Staged plan token bytes) Gave config tasks old new = EndsUpload Gave plan token.number bytes old new
-EndsDeleteFrom (places.Uploaded plan token) Gave config tasks old new = EndsReplace plan.upto Gave plan token.number
+abbrev pub EndsDeleteFrom : HeldPlace → (Answered → Type 0) → IndexConfig → (old new : Option State) → Said → HeldPlace → Type 0
+EndsDeleteFrom places.Idle Gave config old new = EndsPlan Deleting Gave
+EndsDeleteFrom (places.Fetching work) Gave config old new = EndsDeleteAt (slice_get work.plan.rows work.next) Gave config work old new
+EndsDeleteFrom (places.Staged plan token bytes) Gave config old new = EndsUpload Gave plan token.number bytes old new
+EndsDeleteFrom (places.Uploaded plan token) Gave config old new = EndsReplace plan.upto Gave plan token.number
 
-abbrev pub EndsDelete : {W : Type 0} → (told : W → Option State) → (configured : W → IndexConfig) → (tasks_kept : W → List DeleteTask) → (Answers : W → Answered → W → Type 0) → (before : HeldPlace) → Told → (place : HeldPlace) → (old new : W) → Type 0
-EndsDelete told configured tasks_kept Answers before result place old new =
-    Ends (EndsDeleteFrom before (λ call. Answers old call new) (configured old) (tasks_kept old) (told old) (told new)) result place
+abbrev pub EndsDelete : {W : Type 0} → (told : W → Option State) → (configured : W → IndexConfig) → (Answers : W → Answered → W → Type 0) → (before : HeldPlace) → Told → (place : HeldPlace) → (old new : W) → Type 0
+EndsDelete told configured Answers before result place old new =
+    Ends (EndsDeleteFrom before (λ call. Answers old call new) (configured old) (told old) (told new)) result place
 
 -- ---- a step of a merger
 

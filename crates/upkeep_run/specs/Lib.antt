@@ -8,3 +8,4 @@ pub mod Ending
 pub mod Standing
 pub mod Losing
 pub mod Corrupting
+pub mod WorkAll

@@ -1,9 +1,14 @@
 -- What a merger or a delete worker holds between its steps.
 use Rattle.std.specs.Prelude.{◌≡◌, ◌≢◌, ℕ, ◌+◌, ◌≤◌, Bool, true, false, List, [], length, map, sum_by, Option, Some, None}
 use Rattle.std.specs.List.{AllZip}
+use Rattle.std.specs.Option.{IfSome}
+use Rattle.delete_tasks.specs.Removed.{covered_by}
+use Rattle.delete_tasks.specs.Removes.{DeleteTask}
+use Rattle.doc_value.specs.Documents.{IsDynamic}
 use Rattle.index_config.specs.declared.config.IndexConfig.{IndexConfig}
 use Rattle.merge_policy.specs.Choice.{FitsSplit}
 use Rattle.meta_store.specs.History.{history, last_opstamp}
+use Rattle.meta_store.specs.Laws.{NumberedFrom}
 use Rattle.meta_store.specs.Ledgers.{ledger}
 use Rattle.meta_store.specs.Left.{HasMarks, mark_of}
 use Rattle.source_checkpoint.specs.declared.delta.Part.{Part}
@@ -16,17 +21,20 @@ use Rattle.index_world.specs.Config.{reads}
 use Rattle.index_world.specs.Core.{Core, HasStagedIn, IsConfigured, IsPlannedIn, IsUnusedIn, IsUploadedIn}
 use Rattle.index_world.specs.Index.{ranges_of}
 use Rattle.index_world.specs.Replacing.{AreFetchedIn, IsMadeOf, WerePlanned, joined}
-use Rattle.index_world.specs.Seen.{rejected_in}
+use Rattle.index_world.specs.Seen.{meaning, rejected_in}
 use Rattle.index_world.specs.SplitFile.{AreSplit, facts_of, file_of}
+use Rattle.upkeep_run.specs.Dropping.{AreAsked}
 use Rattle.upkeep_run.specs.declared.work.Aim.{Aim}
 use Rattle.upkeep_run.specs.declared.work.Aim.TheVariants.{Deleting, Merging}
 
--- Rows that were planned, and what each of their files holds, in the order of the plan: under which configuration, at which moment, and
--- behind which task. And the rows whose files are still to be fetched.
+-- Rows that were planned, and what each of their files holds, in the order of the plan: what for, under which configuration, at which moment,
+-- and behind which task, of all that stood. And the rows whose files are still to be fetched.
 pub record Work : Type 0 where
+  pub aim : Aim
   pub config : IndexConfig
   pub moment : ℕ
   pub upto : ℕ
+  pub tasks : List DeleteTask
   pub rows : List Row
   pub contents : List (List Placed)
   pub unfetched : List Row
@@ -97,12 +105,17 @@ pub record IsWork (log : Log) (core : Core) (work : Work) : Type 0 where
   pub fits : FitsSplit work.rows
   pub few : length work.rows ≤ 100
   pub known : work.upto ≤ last_opstamp (history core.history)
+  -- the tasks that stood are numbered, each can be asked, and up to the last one they cover what all tasks do
+  pub numbered : NumberedFrom 1 work.tasks
+  pub asked : IfSome work.config.schema.dynamic (IsDynamic work.config.schema.fields) → AreAsked work.config.schema work.tasks
+  pub covers : (x : Placed) (n : ℕ) → covered_by ((meaning work.config).matches x) work.tasks n work.upto ≡ covered_by ((meaning work.config).matches x) (ledger reads (history core.history)).tasks n work.upto
 
 -- what a plan's rows are: some, each once, and one of deletes
 pub record IsPlannedFor (aim : Aim) (work : Work) : Type 0 where
   pub some : work.rows ≢ []
   pub apart : AreApart (row_numbers work.rows)
   pub one : IsOneOfDeletes aim work.rows
+  pub for_it : work.aim ≡ aim
 
 -- ---- a replacement
 

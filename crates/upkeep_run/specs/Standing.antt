@@ -11,6 +11,7 @@ use Rattle.index_world.specs.Config.{reads}
 use Rattle.index_world.specs.Core.{Core, IsUnusedIn, journal_of}
 use Rattle.index_world.specs.Gate.{Does, IsRevision, IsTrouble, IsUnmade, WasStaged, raise_call, stage_call}
 use Rattle.index_world.specs.Index.{has_staged}
+use Rattle.index_world.specs.PlanTasks.{plan_tasks}
 use Rattle.index_world.specs.Replacing.{joined, left_in, numbers_of}
 use Rattle.index_world.specs.Saying.{error_words, refusal_words}
 use Rattle.index_world.specs.SplitFile.{file_of}
@@ -28,7 +29,7 @@ use Rattle.upkeep_run.specs.Judging.{AreSplits}
 use Rattle.upkeep_run.specs.Outcomes.{UpkeepOutcome, Faulted}
 use Rattle.upkeep_run.specs.Outcomes as outcomes
 use Rattle.upkeep_run.specs.Places.{WorkerHeld, IsStagedHeld, IsPlannedFor, IsUploadedHeld, IsWork, WorkerPlace, Work, fetching, held_file, idle, marks_of, number_held, staged, uploaded}
-use Rattle.upkeep_run.specs.Steps.{WorkerLuck, step_worker}
+use Rattle.upkeep_run.specs.Steps.{WorkerLuck, choice_of, step_worker}
 use Rattle.upkeep_run.specs.declared.work.Aim.{Aim}
 use Rattle.upkeep_run.specs.declared.outcome.UpkeepOutcome.{UpkeepOutcome as Said}
 use Rattle.upkeep_run.specs.declared.outcome.UpkeepOutcome.TheVariants as said
@@ -73,11 +74,12 @@ Answers (Err refused) None = ⊤
 
 -- ---- what a worker holds
 
--- the plan's rows are these, and of the first of them the files were fetched
+-- the plan's rows are these, with the tasks that it takes along, and of the first of them the files were fetched
 pub record WorkStands (held : HeldWork) (work : Work) : Type 0 where
   pub rows : held.plan.rows ≡ map worked_row work.rows
   pub moment : held.plan.moment ≡ work.moment
   pub upto : held.plan.upto ≡ work.upto
+  pub tasks : held.plan.tasks ≡ plan_tasks (choice_of work.aim) held.plan.upto held.plan.rows work.tasks
   pub within : held.next ≤ length work.rows
   pub files : held.files ≡ map (file_of work.config) (take held.next work.contents)
   pub unfetched : work.unfetched ≡ drop held.next work.rows

@@ -74,9 +74,11 @@ contents_in log core row = contents (config_in core) (ledger reads (history core
 abbrev pub work_in : Aim → Log → Core → Work
 work_in aim log core =
     record {
+      aim = aim;
       config = config_in core;
       moment = core.moment;
       upto = last_opstamp (history core.history);
+      tasks = (ledger reads (history core.history)).tasks;
       rows = rows_in aim core;
       contents = map (contents_in log core) (rows_in aim core);
       unfetched = rows_in aim core;

@@ -4,19 +4,17 @@ ghost use Rattle.std.specs.Prelude.{◌≡◌, ◌≢◌, ◌↔◌, ◌⊎◌, 
 ghost use Rattle.doc_sets.specs.Faults.{IsMemory};
 ghost use Rattle.source_log.specs.Log.{IsLog, Log};
 ghost use Rattle.split_merge.specs.Keeping.{RiseFrom};
-ghost use Rattle.index_world.specs.Config.{reads};
 ghost use Rattle.index_world.specs.Core.{Core, IsConfigured};
-ghost use Rattle.meta_store.specs.History.{history};
-ghost use Rattle.meta_store.specs.Ledgers.{ledger};
+ghost use Rattle.index_world.specs.PlanTasks.{spans_of};
 ghost use Rattle.meta_store.specs.declared.planning.PlanRow.{PlanRow as Row};
 ghost use Rattle.upkeep_run.specs.Corrupting.{CorruptClose, CorruptDelete, CorruptDeleteAt, IsCorrupt, LeftFault};
 ghost use Rattle.upkeep_run.specs.Dropping.{DropsOf, IsUnasked};
-ghost use Rattle.upkeep_run.specs.Ending.{Ends, EndsClose, EndsDelete, EndsDeleteAt, EndsDropped, EndsLeft, spans_of, tasks_asked};
+ghost use Rattle.upkeep_run.specs.Ending.{Ends, EndsClose, EndsDelete, EndsDeleteAt, EndsDropped, EndsLeft};
 ghost use Rattle.upkeep_run.specs.Places.{IsPlannedFor, IsWork, WorkerPlace as Stand, Work as Planned, fetching, idle, is_idle};
 ghost use Rattle.upkeep_run.specs.Standing.{HoldsOwn, LeavesOf, PlaceStands, StepsAs, WorkStands};
 ghost use Rattle.upkeep_run.specs.declared.work.Aim.TheVariants.{Deleting};
 
-use crate::dropping::{dropped, least_of};
+use crate::dropping::dropped;
 use crate::judging::merged;
 use crate::outcome::UpkeepOutcome;
 use crate::work::{
@@ -24,7 +22,7 @@ use crate::work::{
     unmerged, upload,
 };
 use doc_sets::LeafError;
-use index_world::Gate;
+use index_world::{Gate, Plan};
 use meta_store::PlanRow;
 use source_checkpoint::Span;
 use split_laws::built_is_one;
@@ -47,23 +45,22 @@ fn spans_of(row: &PlanRow) -> &[Span]
     }
 }
 
-// The places of the documents of a row's file that tasks up to the plan's last one drop.
+// The places of the documents of a row's file that the plan's tasks drop.
 fn dropped_of<G: Gate>(
     alloc: Global,
     gate: &G,
-    upto: u64,
+    plan: &Plan,
     row: &PlanRow,
     file: &[u8],
 ) -> Result<Vec<u64>, LeafError>
     ensures drops { MatchResult result
-        (λ places. DropsOf (G.configured gate.now).schema (spans_of row.now.work) (tasks_asked (G.tasks_kept gate.now) upto row.now) upto file.now places.items)
-        (λ error. IsMemory error ⊎ IsUnasked (G.configured gate.now).schema (tasks_asked (G.tasks_kept gate.now) upto row.now) file.now) }
+        (λ places. DropsOf (G.configured gate.now).schema (spans_of row.now.work) plan.now.tasks plan.now.upto file.now places.items)
+        (λ error. IsMemory error ⊎ IsUnasked (G.configured gate.now).schema plan.now.tasks file.now) }
     ensures config { (core : Core) (log : Log) → G.Stands gate.now core log → IsConfigured (G.configured gate.now) core }
-    ensures tasks { (core : Core) (log : Log) → G.Stands gate.now core log → tasks_asked (G.tasks_kept gate.now) upto row.now ≡ tasks_asked (ledger reads (history core.history)).tasks upto row.now }
 {
     let spans = spans_of(row);
-    let tasks = gate.tasks(least_of(upto, spans));
-    dropped(alloc, &gate.config().schema, spans, tasks, upto, file)
+    let tasks = plan.tasks.as_slice();
+    dropped(alloc, &gate.config().schema, spans, tasks, plan.upto, file)
 }
 
 impl DeleteWorker {
@@ -168,8 +165,8 @@ impl DeleteWorker {
         ensures later { G.since gate.old gate.new }
         ensures owns { HoldsOwn G.Owns gate.new self.new.place }
         // Whatever the gate tells.
-        ensures ends { Ends (EndsClose (slice_get work.plan.rows 0) (slice_get work.files 0) (λ call. G.Answers gate.old call gate.new) (G.configured gate.old) (G.tasks_kept gate.old) work) result self.new.place }
-        ensures corrupt { CorruptClose (slice_get work.plan.rows 0) (slice_get work.files 0) (λ call. G.Answers gate.old call gate.new) (G.configured gate.old) (G.tasks_kept gate.old) work result }
+        ensures ends { Ends (EndsClose (slice_get work.plan.rows 0) (slice_get work.files 0) (λ call. G.Answers gate.old call gate.new) (G.configured gate.old) work) result self.new.place }
+        ensures corrupt { CorruptClose (slice_get work.plan.rows 0) (slice_get work.files 0) (λ call. G.Answers gate.old call gate.new) (G.configured gate.old) work result }
         ensures step { (core : Core) (log : Log) (planned : Planned) → IsLog log → G.Stands gate.old core log → WorkStands work planned → IsWork log core planned → IsPlannedFor Deleting planned →
             planned.unfetched ≡ [] →
             StepsAs G.Stands G.Between G.Owns G.Adds Deleting result (fetching planned) core log self.new.place gate.old gate.new }
@@ -180,13 +177,7 @@ impl DeleteWorker {
         }
         let row = work.plan.rows.at(0);
         let number = row.number;
-        match dropped_of(
-            alloc,
-            gate,
-            work.plan.upto,
-            row,
-            work.files.at(0).as_slice(),
-        ) {
+        match dropped_of(alloc, gate, &work.plan, row, work.files.at(0).as_slice()) {
             Ok(dropped) => self.apply(alloc, gate, work, number, dropped.as_slice()),
             Err(error) => {
                 mem::drop(work);
@@ -206,8 +197,8 @@ impl DeleteWorker {
         ensures later { G.since gate.old gate.new }
         ensures owns { HoldsOwn G.Owns gate.new self.new.place }
         // Whatever the gate tells.
-        ensures ends { Ends (EndsDeleteAt (slice_get work.plan.rows work.next) (λ call. G.Answers gate.old call gate.new) (G.configured gate.old) (G.tasks_kept gate.old) work (G.told gate.old) (G.told gate.new)) result self.new.place }
-        ensures corrupt { CorruptDeleteAt (slice_get work.plan.rows work.next) (λ call. G.Answers gate.old call gate.new) (G.configured gate.old) (G.tasks_kept gate.old) work result }
+        ensures ends { Ends (EndsDeleteAt (slice_get work.plan.rows work.next) (λ call. G.Answers gate.old call gate.new) (G.configured gate.old) work (G.told gate.old) (G.told gate.new)) result self.new.place }
+        ensures corrupt { CorruptDeleteAt (slice_get work.plan.rows work.next) (λ call. G.Answers gate.old call gate.new) (G.configured gate.old) work result }
         ensures step { (core : Core) (log : Log) (planned : Planned) → IsLog log → G.Stands gate.old core log → WorkStands work planned → IsWork log core planned → IsPlannedFor Deleting planned →
             StepsAs G.Stands G.Between G.Owns G.Adds Deleting result (fetching planned) core log self.new.place gate.old gate.new }
     {
@@ -228,13 +219,13 @@ impl DeleteWorker {
         requires begun { (log : Log) → G.Begins gate.old log → (place : Stand) × (core : Core) × PlaceStands Deleting log core self.old.place place × G.Stands gate.old core log }
         ensures later { G.since gate.old gate.new }
         ensures owns { HoldsOwn G.Owns gate.new self.new.place }
-        // Whatever the gate tells: what a call answered is told as itself, and what the tasks that the gate keeps drop is dropped.
-        ensures ends { EndsDelete G.told G.configured G.tasks_kept G.Answers self.old.place result self.new.place gate.old gate.new }
+        // Whatever the gate tells: what a call answered is told as itself, and what the plan's tasks drop is dropped.
+        ensures ends { EndsDelete G.told G.configured G.Answers self.old.place result self.new.place gate.old gate.new }
         ensures step { (place : Stand) (core : Core) (log : Log) → IsLog log → PlaceStands Deleting log core self.old.place place → G.Stands gate.old core log →
             StepsAs G.Stands G.Between G.Owns G.Adds Deleting result place core log self.new.place gate.old gate.new }
         // Whatever the gate tells: the row's file is corrupt only where its bytes stand for no documents, for others than the row's facts
         // say, or for none of which all tasks can be asked, and always at its fetch where they stand for others than the row's facts say.
-        ensures corrupt { CorruptDelete G.configured G.tasks_kept G.Answers self.old.place result gate.old gate.new }
+        ensures corrupt { CorruptDelete G.configured G.Answers self.old.place result gate.old gate.new }
     {
         match mem::replace(&mut self.place, WorkerPlace::Idle) {
             WorkerPlace::Idle => plan(alloc, gate, Aim::Deleting, &mut self.place),

@@ -17,7 +17,7 @@ ghost use Rattle.split_bundle.specs.Splits.{IsSplit};
 ghost use Rattle.split_bundle.specs.Wholes.{HaveAll};
 ghost use Rattle.split_bundle.specs.declared.placed.Placed.{Placed};
 ghost use Rattle.split_merge.specs.Keeping.{RiseFrom};
-ghost use Rattle.upkeep_run.specs.Dropping.{AreAsked, HasDropped, IsAdmitted, IsDropSet, drops, holds, is_before, least_of, place_at};
+ghost use Rattle.upkeep_run.specs.Dropping.{AreAsked, HasDropped, IsAdmitted, IsDropSet, drops, holds, is_before, place_at};
 
 use delete_tasks::Task;
 use doc_sets::{DocBits, LeafError};
@@ -26,17 +26,6 @@ use leaf_search::matching_numbers;
 use source_checkpoint::Span;
 use split_bundle::{Address, PartView};
 use std::alloc::{AllocError, Global};
-
-/// The least task behind which a record of these spans was taken in, and at most the last one.
-pub(crate) fn least_of(upto: u64, spans: &[Span]) -> u64
-    ensures { result ≡ least_of upto spans.now }
-{
-    let mut least = upto;
-    for span in spans {
-        least = least.min(span.admitted);
-    }
-    least
-}
 
 // Whether the record at an address is one of a span.
 fn has_record(span: &Span, at: &Address) -> bool

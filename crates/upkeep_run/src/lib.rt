@@ -8,9 +8,11 @@ mod merger;
 mod outcome;
 mod step_laws;
 mod work;
+mod working;
 
 pub use delete_worker::DeleteWorker;
 pub use merger::Merger;
 pub use outcome::{UpkeepOutcome, print_outcome};
 pub use step_laws::{lost_is_exact, nothing_is_exact, others_leave_it};
 pub use work::Aim;
+pub use working::{WorkerEnd, delete_all, merge_all};

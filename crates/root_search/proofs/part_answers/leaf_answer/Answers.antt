@@ -2,9 +2,15 @@ use Rattle.std.proofs.Common.{List, subst, sym}
 use Rattle.std.specs.List.{AllZip}
 use Rattle.split_bundle.specs.declared.part_view.PartView.{PartView}
 use Rattle.root_search.specs.PartAnswers.{IsViewOfPart}
-use Rattle.root_search.proofs.Parting.{all_asked, parted_at}
+use Rattle.root_search.proofs.Parting.{all_asked, all_lent, parted_at}
 use Rattle.root_search.proofs.Unread.{part_refused, parts_answered}
 use Rattle.root_search.proofs.part_answers.leaf_answer.Goals as goal
+
+pub search_all-requires-clause-lent : goal.search_all-requires-clause-lent
+search_all-requires-clause-lent g c = λ lives outlive.
+    let parted = parted_at c.args.parts c.in_ok-parted.parted.footers.items c.in_ok-parted.parted.splits c.as_slice-splits.result.now c.as_slice-splits.ensures c.in_ok-parted.ensures in
+    let seen = subst (λ (vs : List PartView). AllZip IsViewOfPart c.args.parts vs) (sym c.as_slice.ensures) (c.in_ok-views.ensures c.args.parts parted) in
+    all_lent c.args.parts c.as_slice-splits.result.now c.as_slice.result.now parted.1 seen
 
 pub returns-in-Ok-clause-only : goal.returns-in-Ok-clause-only
 returns-in-Ok-clause-only g c =

@@ -3,28 +3,24 @@ use Rattle.std.proofs.lemmas.Option.{slice_get_read}
 use Rattle.split_build.proofs.Zipped.{Partly, partly_all}
 use Rattle.split_merge.specs.Merging.{Blames}
 use Rattle.split_merge.specs.Walking.{IsWalkOf}
-use Rattle.split_merge.proofs.GatherLemmas.{IsReady, all_joined, all_ready, drop_is, joins_more, ready_at, set_here, spells_more}
+use Rattle.split_merge.proofs.GatherLemmas.{IsReady, all_joined, all_ready, drop_is, joins_more, ready_at, set_here}
 use Rattle.split_merge.proofs.KeptLemmas.{at_view, fault_blames, views_end}
-use Rattle.split_merge.proofs.SpellLemmas.{none_yet}
 use Rattle.split_merge.proofs.key_lists.gather_key.Goals as goal
 
 pub loop-i-init : goal.loop-i-init
 loop-i-init c = record {
-  can = λ dropped are h. record { place = 0; next = 0; list = []; holds = h; follow = none_yet c.args.kept 0; tables_are = are };
-  held = λ h. ([], h);
   walks = λ s last kept past are not_below. all_ready s last c.args.key.now c.args.views.now c.args.walks.now are not_below;
   only = λ s last lists kept past are not_below views h. record { list = []; holds = h; whole_is = refl };
 }
 
 pub returns-in-Err-clause-cause : goal.returns-in-Err-clause-cause
-returns-in-Err-clause-cause c = λ s last kept past are not_below h.
+returns-in-Err-clause-cause c = λ s last kept past are not_below.
     let i = c.loop-i.i in
     let there = slice_get_read c.args.views.now (length c.args.views.now) i c.index-views-i.result refl (omega (arith, c.loop-i-test.true, c.loop-i.auto.walks, c.requires.walks)) c.index-views-i.is in
     let ready = ready_at (IsWalkOf s (Some c.args.key.now)) (IsReady s last c.args.key.now) i c.args.views.now c.loop-i.walks c.index-views-i.result c.index-views-i.result (get_or c.loop-i.walks i c.index-walks-i.result) c.index-walks-i.result
     (omega (arith, c.loop-i-test.true, c.loop-i.auto.walks)) c.index-views-i.is refl (c.loop-i.invariant.walks s last kept past are not_below) in
-    let held = c.loop-i.invariant.held h in
     subst (Blames s c.args.views.now) (sym c.fault_of.ensures)
-    (fault_blames s c.args.views.now i c.index-views-i.result c.in-Err.fault there (λ ds views. c.in-Err.ensures.only s last ds views.0 held.0 kept past ready.walk ready.not_below views.1 held.1))
+    (fault_blames s c.args.views.now i c.index-views-i.result c.in-Err.fault there (λ ds views. c.in-Err.ensures.only s last ds views.0 kept past ready.walk ready.not_below views.1))
 
 pub loop-i-preserved : goal.loop-i-preserved
 loop-i-preserved c =
@@ -35,11 +31,6 @@ loop-i-preserved c =
     let numbers_left = drop_is c.args.numbers.now i c.index-numbers-i.result c.index-numbers-i.result lt_numbers c.index-numbers-i.is in
     let there = slice_get_read c.args.views.now (length c.args.views.now) i c.index-views-i.result refl lt_views c.index-views-i.is in
     record {
-      can = λ dropped are h.
-          let so_far = c.loop-i.invariant.can dropped are h in
-          spells_more c.args.kept dropped _ c.index-views-i.result (drop (i + 1) c.args.views.now) _ c.index-numbers-i.result (drop (i + 1) c.args.numbers.now) c.loop-i.list c.take_key.new.list views_left numbers_left so_far
-          (c.in-Ok.ensures.joins so_far.list so_far.holds);
-      held = λ h. let held = c.loop-i.invariant.held h in let now = c.in-Ok.ensures.joins held.0 held.1 in (now.0, now.1);
       walks = λ s last kept past are not_below.
           let partly = c.loop-i.invariant.walks s last kept past are not_below in
           let ready = ready_at (IsWalkOf s (Some c.args.key.now)) (IsReady s last c.args.key.now) i c.args.views.now c.loop-i.walks c.index-views-i.result c.index-views-i.result (get_or c.loop-i.walks i c.index-walks-i.result) c.index-walks-i.result
@@ -53,8 +44,8 @@ loop-i-preserved c =
           let ready = ready_at (IsWalkOf s (Some c.args.key.now)) (IsReady s last c.args.key.now) i c.args.views.now c.loop-i.walks c.index-views-i.result c.index-views-i.result (get_or c.loop-i.walks i c.index-walks-i.result) c.index-walks-i.result
           (omega (arith, c.loop-i-test.true, c.loop-i.auto.walks)) c.index-views-i.is refl (c.loop-i.invariant.walks s last kept past are not_below) in
           let so_far = c.loop-i.invariant.only s last lists kept past are not_below views h in
-          joins_more s c.args.key.now _ at.documents (drop (i + 1) lists) _ c.index-numbers-i.result (drop (i + 1) c.args.numbers.now) _ c.loop-i.list c.take_key.new.list at.parts numbers_left so_far
-          (c.in-Ok.ensures.only s last at.documents at.views.0 so_far.list kept past ready.walk ready.not_below at.views.1 so_far.holds);
+          joins_more s c.args.key.now _ at.documents (drop (i + 1) lists) _ c.index-numbers-i.result (drop (i + 1) c.args.numbers.now) _ c.args.kept c.loop-i.list c.take_key.new.list at.parts numbers_left so_far
+          (c.in-Ok.ensures.only s last at.documents at.views.0 kept past ready.walk ready.not_below at.views.1 so_far.list so_far.holds);
     }
 
 pub returns-clause-walks : goal.returns-clause-walks
@@ -63,5 +54,5 @@ returns-clause-walks c = λ s last kept past are not_below.
 
 pub returns-clause-only : goal.returns-clause-only
 returns-clause-only c = λ s last lists kept past are not_below views h.
-    all_joined s c.args.key.now _ _ _ c.loop-i.list (views_end s c.args.views.now lists c.loop-i.i views (omega (arith, c.loop-i-test.false, c.loop-i.auto.walks, c.loop-i.auto.i-end, c.requires.walks)))
+    all_joined s c.args.key.now _ _ _ c.args.kept c.loop-i.list (views_end s c.args.views.now lists c.loop-i.i views (omega (arith, c.loop-i-test.false, c.loop-i.auto.walks, c.loop-i.auto.i-end, c.requires.walks)))
     (c.loop-i.invariant.only s last lists kept past are not_below views h)

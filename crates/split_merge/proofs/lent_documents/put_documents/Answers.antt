@@ -1,4 +1,4 @@
-use Rattle.std.proofs.Common.{◌∙◌, ◌++◌, List, ℕ, ap, arith}
+use Rattle.std.proofs.Common.{◌∙◌, ◌++◌, List, ℕ, ap}
 use Rattle.split_bundle.specs.Documents.{joined}
 use Rattle.split_merge.specs.LentDocuments.{in_bytes}
 use Rattle.split_merge.proofs.LentLemmas.{document_end, document_step, numbered_at}

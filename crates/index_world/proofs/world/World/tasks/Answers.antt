@@ -1,21 +1,15 @@
-use Rattle.std.proofs.Common.{◌≡◌, ◌≤◌, ◌<◌, ◌-◌, ℕ, Bool, true, false, List, length, min, drop, nat_le, refl, sym, ap, ◌∙◌, arith}
-use Rattle.std.proofs.lemmas.Bool.{leb-true, leb-false}
-use Rattle.std.proofs.lemmas.List.{drop_all, length-drop, take_all}
+use Rattle.std.proofs.Common.{◌≡◌, List, sym, ap, ◌∙◌, subst}
+use Rattle.std.specs.Prelude.{IfOk}
+use Rattle.delete_tasks.specs.Removes.{DeleteTask}
+use Rattle.meta_store.proofs.Current.{tasks_agree}
+use Rattle.meta_store.specs.History.{history}
+use Rattle.meta_store.specs.State as meta
+use Rattle.index_world.specs.Config.{reads}
+use Rattle.index_world.specs.PlanTasks.{tasks_upto}
 use Rattle.index_world.specs.World.{Keeping}
 use Rattle.index_world.proofs.world.World.tasks.Goals as goal
 
-drop_least : {X : Type 0} (b : ℕ) (xs : List X) → drop (min b (length xs)) xs ≡ drop b xs
-drop_least {X} b xs = by (nat_le b (length xs)) refl
-  where
-    by : (t : Bool) → nat_le b (length xs) ≡ t → drop (min b (length xs)) xs ≡ drop b xs
-    by true t = let le : b ≤ length xs = leb-true b (length xs) t in let e : min b (length xs) ≡ b = omega (arith, le) in ap (λ (n : ℕ). drop n xs) e
-    by false t =
-        let lt : length xs < b = leb-false b (length xs) t in
-        drop_all (min b (length xs)) xs (omega (arith, lt)) ∙ sym (drop_all b xs (omega (arith, lt)))
-
-pub returns : goal.returns
-returns g c =
-    let tasks = c.as_slice-tasks.result.now in
-    let few : length (drop c.min-from.result tasks) ≤ length tasks - c.min-from.result = let e = length-drop c.min-from.result tasks in omega (arith, e) in
-    take_all (length tasks - c.min-from.result) (drop c.min-from.result tasks) few ∙ ap (λ (n : ℕ). drop n tasks) c.min-from.ensures ∙ drop_least c.args.behind tasks
-    ∙ ap (drop c.args.behind) (c.as_slice-tasks.ensures ∙ c.tasks.ensures ∙ ap (λ (k : Keeping). k.meta.tasks) c.self.view_is)
+pub returns-clause-step : goal.returns-clause-step
+returns-clause-step g c core log s =
+    subst (λ (all : List DeleteTask). IfOk c.copied_upto.result (λ copies. copies ≡ tasks_upto c.args.upto all))
+    (c.as_slice.ensures ∙ c.tasks.ensures ∙ ap (λ (k : Keeping). k.meta.tasks) c.self.view_is ∙ ap (λ (m : meta.State). m.tasks) s.meta ∙ sym (tasks_agree reads (history core.history))) c.copied_upto.ensures

@@ -1,27 +1,19 @@
-use Rattle.std.proofs.Common.{◌++◌, ℕ, Option, [], sym, subst}
-use Rattle.split_merge.specs.Joining.{Holds, with_number}
+use Rattle.std.proofs.Common.{◌++◌, ◌∷◌, ◌∙◌, ℕ, Option, [], true, ap, sym, subst}
+use Rattle.split_merge.specs.Joining.{Adds, with_number}
 use Rattle.split_merge.specs.declared.lists.KeyList.{KeyList}
+use Rattle.split_merge.specs.declared.lists.Listed.{Listed}
 use Rattle.split_merge.proofs.ListLemmas.{pushed}
 use Rattle.split_merge.proofs.lists.KeyList.push.Goals as goal
 
-pub returns-in_ok-push-in-Ok-clause-taken : goal.returns-in_ok-push-in-Ok-clause-taken
-returns-in_ok-push-in-Ok-clause-taken c = λ ps h.
-    let now : KeyList = record { entries = c.push.new.self; places = c.take_kept.new.places } in
-    let t = c.in-Ok.ensures.taken in (
-      t.0,
-      t.3,
-      subst (λ (o : Option ℕ). Holds now (ps ++ with_number o t.0 [])) (sym c.in-Some.is)
-          (pushed c.args.self.now now ps t.0 c.in-Some.document c.in-Ok.positions h c.in_ok-push-in-Ok.ensures.items t.1 t.2),
+pub returns-in_ok-push-in-Ok : goal.returns-in_ok-push-in-Ok
+returns-in_ok-push-in-Ok c = λ after left stands can.
+    let now : KeyList = record { entries = c.push.new.self; places = c.take_places.new.places } in
+    let entries = c.in_ok-push-in-Ok.ensures.items ∙ ap (λ (e : Listed). c.args.self.now.entries.items ++ e ∷ []) c.with_positions.ensures.listed in
+    let o = c.in-Ok.ensures after left stands can.rising in (
+      subst (λ (n : Option ℕ). Adds true c.args.self.now now (with_number n left [])) (sym c.in-Some.is)
+          (λ ps h. pushed true c.args.self.now now ps left c.in-Some.document c.in-Ok.positions h entries o.0 o.1 c.with_positions.ensures.fits can),
+      ([], o.2),
     )
 
-pub returns-in_ok-push-in-Ok-clause-only : goal.returns-in_ok-push-in-Ok-clause-only
-returns-in_ok-push-in-Ok-clause-only c = λ ps after left h stands can.
-    let now : KeyList = record { entries = c.push.new.self; places = c.take_kept.new.places } in
-    let o = c.in-Ok.ensures.only after left stands can in (
-      subst (λ (n : Option ℕ). Holds now (ps ++ with_number n left [])) (sym c.in-Some.is)
-          (pushed c.args.self.now now ps left c.in-Some.document c.in-Ok.positions h c.in_ok-push-in-Ok.ensures.items o.0 o.1),
-      o.2,
-    )
-
-pub returns-in-Err-clause-only : goal.returns-in-Err-clause-only
-returns-in-Err-clause-only c = λ ps after left h stands can. c.in-Err.ensures.only after left stands can
+pub returns-in-Err : goal.returns-in-Err
+returns-in-Err c = λ after left stands can. c.in-Err.ensures after left stands can.rising

@@ -52,19 +52,19 @@ replace_rows-requires g c = λ log begins.
     (given.1, given.3, may_replace log given.1 at.0 _ _ _ at.3 at.2.old at.2.upto at.4)
 
 pub returns-in-Idle-clause-ends : goal.returns-in-Idle-clause-ends
-returns-in-Idle-clause-ends g c = delete_ends g.G.Gate.told g.G.Gate.configured g.G.Gate.tasks_kept g.G.Gate.Answers c.args.self.now.place c.plan.result c.plan.new.place c.args.gate.now c.plan.new.gate places.Idle (sym c.replace.ensures.value ∙ c.in-Idle.is) c.plan.ensures.ends
+returns-in-Idle-clause-ends g c = delete_ends g.G.Gate.told g.G.Gate.configured g.G.Gate.Answers c.args.self.now.place c.plan.result c.plan.new.place c.args.gate.now c.plan.new.gate places.Idle (sym c.replace.ensures.value ∙ c.in-Idle.is) c.plan.ensures.ends
 
 pub returns-in-Fetching-clause-ends : goal.returns-in-Fetching-clause-ends
 returns-in-Fetching-clause-ends g c =
-    delete_ends g.G.Gate.told g.G.Gate.configured g.G.Gate.tasks_kept g.G.Gate.Answers c.args.self.now.place c.work_on.result c.work_on.new.self.place c.args.gate.now c.work_on.new.gate (places.Fetching c.in-Fetching.work) (sym c.replace.ensures.value ∙ c.in-Fetching.is) c.work_on.ensures.ends
+    delete_ends g.G.Gate.told g.G.Gate.configured g.G.Gate.Answers c.args.self.now.place c.work_on.result c.work_on.new.self.place c.args.gate.now c.work_on.new.gate (places.Fetching c.in-Fetching.work) (sym c.replace.ensures.value ∙ c.in-Fetching.is) c.work_on.ensures.ends
 
 pub returns-in-Staged-clause-ends : goal.returns-in-Staged-clause-ends
 returns-in-Staged-clause-ends g c =
-    delete_ends g.G.Gate.told g.G.Gate.configured g.G.Gate.tasks_kept g.G.Gate.Answers c.args.self.now.place c.upload.result c.upload.new.place c.args.gate.now c.upload.new.gate (places.Staged c.in-Staged.plan c.in-Staged.staged c.in-Staged.bytes) (sym c.replace.ensures.value ∙ c.in-Staged.is) c.upload.ensures.ends
+    delete_ends g.G.Gate.told g.G.Gate.configured g.G.Gate.Answers c.args.self.now.place c.upload.result c.upload.new.place c.args.gate.now c.upload.new.gate (places.Staged c.in-Staged.plan c.in-Staged.staged c.in-Staged.bytes) (sym c.replace.ensures.value ∙ c.in-Staged.is) c.upload.ensures.ends
 
 pub returns-in-Uploaded-clause-ends : goal.returns-in-Uploaded-clause-ends
 returns-in-Uploaded-clause-ends g c =
-    delete_ends g.G.Gate.told g.G.Gate.configured g.G.Gate.tasks_kept g.G.Gate.Answers c.args.self.now.place c.replace_rows.result c.replace.new.dest c.args.gate.now c.replace_rows.new.gate (places.Uploaded c.in-Uploaded.plan c.in-Uploaded.uploaded) (sym c.replace.ensures.value ∙ c.in-Uploaded.is)
+    delete_ends g.G.Gate.told g.G.Gate.configured g.G.Gate.Answers c.args.self.now.place c.replace_rows.result c.replace.new.dest c.args.gate.now c.replace_rows.new.gate (places.Uploaded c.in-Uploaded.plan c.in-Uploaded.uploaded) (sym c.replace.ensures.value ∙ c.in-Uploaded.is)
     (subst (λ (k : HeldPlace). Ends (EndsReplace c.in-Uploaded.plan.upto (λ (call : Answered). g.G.Gate.Answers c.args.gate.now call c.replace_rows.new.gate) c.in-Uploaded.plan c.in-Uploaded.uploaded.number) c.replace_rows.result k) (sym c.replace.ensures.after) c.replace_rows.ensures.ends)
 
 pub work_on-requires-clause-begun : goal.work_on-requires-clause-begun
@@ -75,19 +75,19 @@ work_on-requires-clause-begun g c = λ log begins.
 
 pub returns-in-Idle-clause-corrupt : goal.returns-in-Idle-clause-corrupt
 returns-in-Idle-clause-corrupt g c =
-    corrupt_delete g.G.Gate.configured g.G.Gate.tasks_kept g.G.Gate.Answers c.args.self.now.place c.plan.result c.args.gate.now c.plan.new.gate places.Idle (sym c.replace.ensures.value ∙ c.in-Idle.is)
+    corrupt_delete g.G.Gate.configured g.G.Gate.Answers c.args.self.now.place c.plan.result c.args.gate.now c.plan.new.gate places.Idle (sym c.replace.ensures.value ∙ c.in-Idle.is)
     (plan_gives Deleting (λ (call : Answered). g.G.Gate.Answers c.args.gate.now call c.plan.new.gate) c.plan.result c.plan.new.place c.plan.ensures.ends)
 
 pub returns-in-Fetching-clause-corrupt : goal.returns-in-Fetching-clause-corrupt
 returns-in-Fetching-clause-corrupt g c =
-    corrupt_delete g.G.Gate.configured g.G.Gate.tasks_kept g.G.Gate.Answers c.args.self.now.place c.work_on.result c.args.gate.now c.work_on.new.gate (places.Fetching c.in-Fetching.work) (sym c.replace.ensures.value ∙ c.in-Fetching.is) c.work_on.ensures.corrupt
+    corrupt_delete g.G.Gate.configured g.G.Gate.Answers c.args.self.now.place c.work_on.result c.args.gate.now c.work_on.new.gate (places.Fetching c.in-Fetching.work) (sym c.replace.ensures.value ∙ c.in-Fetching.is) c.work_on.ensures.corrupt
 
 pub returns-in-Staged-clause-corrupt : goal.returns-in-Staged-clause-corrupt
 returns-in-Staged-clause-corrupt g c =
-    corrupt_delete g.G.Gate.configured g.G.Gate.tasks_kept g.G.Gate.Answers c.args.self.now.place c.upload.result c.args.gate.now c.upload.new.gate (places.Staged c.in-Staged.plan c.in-Staged.staged c.in-Staged.bytes) (sym c.replace.ensures.value ∙ c.in-Staged.is)
+    corrupt_delete g.G.Gate.configured g.G.Gate.Answers c.args.self.now.place c.upload.result c.args.gate.now c.upload.new.gate (places.Staged c.in-Staged.plan c.in-Staged.staged c.in-Staged.bytes) (sym c.replace.ensures.value ∙ c.in-Staged.is)
     (upload_gives (λ (call : Answered). g.G.Gate.Answers c.args.gate.now call c.upload.new.gate) c.in-Staged.plan c.in-Staged.staged.number c.in-Staged.bytes (g.G.Gate.told c.args.gate.now) (g.G.Gate.told c.upload.new.gate) c.upload.result c.upload.new.place c.upload.ensures.ends)
 
 pub returns-in-Uploaded-clause-corrupt : goal.returns-in-Uploaded-clause-corrupt
 returns-in-Uploaded-clause-corrupt g c =
-    corrupt_delete g.G.Gate.configured g.G.Gate.tasks_kept g.G.Gate.Answers c.args.self.now.place c.replace_rows.result c.args.gate.now c.replace_rows.new.gate (places.Uploaded c.in-Uploaded.plan c.in-Uploaded.uploaded) (sym c.replace.ensures.value ∙ c.in-Uploaded.is)
+    corrupt_delete g.G.Gate.configured g.G.Gate.Answers c.args.self.now.place c.replace_rows.result c.args.gate.now c.replace_rows.new.gate (places.Uploaded c.in-Uploaded.plan c.in-Uploaded.uploaded) (sym c.replace.ensures.value ∙ c.in-Uploaded.is)
     (replace_gives c.in-Uploaded.plan.upto (λ (call : Answered). g.G.Gate.Answers c.args.gate.now call c.replace_rows.new.gate) c.in-Uploaded.plan c.in-Uploaded.uploaded.number c.replace_rows.result places.Idle c.replace_rows.ensures.ends)

@@ -1,0 +1,13 @@
+pub mod Recording
+pub mod Lives
+pub mod Owners
+pub mod Premises
+pub mod Turning
+pub mod Doing
+pub mod Looking
+pub mod Plain
+pub mod Staging
+pub mod Rooms
+pub mod Fetching
+pub mod Listing
+pub mod Sending

@@ -1,0 +1,15 @@
+use Rattle.std.proofs.Common.{refl, sym, ap, inl, inr}
+use Rattle.std.specs.Prelude.{None}
+use Rattle.index_world.specs.CallsMade.{of_replace}
+use Rattle.index_world.specs.Replacing.{numbers_of}
+use Rattle.index_world.specs.declared.tokens.Plan.{Plan as Planned}
+use Rattle.shared_gate.specs.Acts.{replace_act}
+use Rattle.shared_gate.proofs.Recording.{entered, unheard}
+use Rattle.shared_gate.proofs.recorded.Recorded.replace.Goals as goal
+
+pub returns-in-Err : goal.returns-in-Err
+returns-in-Err g c = inl (unheard c.in-Err.error c.args.home.now c.args.self.now c.begin.new.self c.in-Err.ensures.within c.in-Err.ensures.undone.0 c.in-Err.ensures.undone.1 c.in-Err.ensures.same)
+
+pub returns-in-Ok : goal.returns-in-Ok
+returns-in-Ok g c = inr (entered (of_replace c.args.uploaded.number (numbers_of c.args.plan.now.rows) c.args.upto) None None None (replace_act c.args.uploaded.number (numbers_of c.args.plan.now.rows) c.args.upto c.replace-revision.result) _ c.args.home.now c.note.new.home c.args.self.now c.begin.new.self _ _ c.note.ensures c.in-Ok.ensures.clock c.in-Ok.ensures.same (refl, refl, refl, refl)
+    ((λ core log s given. c.replace-revision.ensures.step core log s given), c.replace-revision.ensures.answers) (record { is = ap (λ (p : Planned). of_replace c.args.uploaded.number (numbers_of p.rows) c.args.upto) (sym c.of.ensures); staged_is = refl; uploaded_is = refl; listed_is = refl }))

@@ -1,0 +1,4 @@
+pub mod Recording
+pub mod Acts
+pub mod Sharing
+pub mod SharedLaws
