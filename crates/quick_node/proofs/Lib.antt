@@ -50,9 +50,6 @@ mod MergeCalls
 mod Merged
 mod ApplyCalls
 mod Applied
-mod JsonTokens
-mod JsonTexts
-mod AskedTexts
 mod Refusing
 mod LogFaults
 pub mod CreateLeaves
