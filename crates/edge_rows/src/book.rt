@@ -1,6 +1,6 @@
 //! The objects that stood on a disk, each with its bytes.
 
-use crate::memory_disk::{MemoryDisk, State};
+use crate::memory_disk::{Found, MemoryDisk, State};
 use crate::wrong::Wrong;
 use object_store::Key;
 use std::alloc::Global;
@@ -61,16 +61,28 @@ impl Book {
     pub fn look(&mut self, disk: &MemoryDisk, are_kept: bool) -> Result<(), Wrong> {
         let state = disk.state()?;
         self.check(&state)?;
-        for found in state.files_in(STORE)? {
-            if is_key(found.path.as_str()) && !self.has(found.path.as_str()) {
-                let bytes = Vec::from_slice(self.alloc, state.bytes(found.node))?;
-                self.seen.push(Seen {
-                    path: found.path,
-                    bytes,
-                    is_kept: are_kept,
-                })?;
+        let files = state.files_in(STORE)?;
+        self.add_all(&state, files.as_slice(), are_kept)
+    }
+
+    fn add_all(&mut self, state: &State, files: &[Found], are_kept: bool) -> Result<(), Wrong> {
+        for found in files {
+            let path = found.path.as_str();
+            if is_key(path) && !self.has(path) {
+                self.add(path, state.bytes(found.node), are_kept)?;
             }
         }
+        Ok(())
+    }
+
+    fn add(&mut self, path: &str, bytes: &[u8], is_kept: bool) -> Result<(), Wrong> {
+        let path = String::from_str(self.alloc, path)?;
+        let bytes = Vec::from_slice(self.alloc, bytes)?;
+        self.seen.push(Seen {
+            path,
+            bytes,
+            is_kept,
+        })?;
         Ok(())
     }
 

@@ -6,7 +6,7 @@ use crate::memory_files::MemoryFiles;
 use crate::wrong::Wrong;
 use clock_time::ScriptClock;
 use index_world::{Unopened, World, WorldError};
-use node_run::{Accepts, DriveNode, LineError, Unstarted, read_line};
+use node_run::{Accepts, DriveNode, Line, LineError, Unstarted, read_line};
 use object_store::ObjectStore;
 use real_edge::{FileLog, FolderStore};
 use source_log::SourceLog;
@@ -97,25 +97,54 @@ fn words_of(error: &WorldError) -> &'static str {
 }
 
 // A world that was not opened told a fault of the store.
-fn is_fault(alloc: Global, error: WorldError) -> Result<(), Wrong> {
-    if let WorldError::StoreFault { .. } = &error {
-        mem::drop(error);
-        return Ok(());
+fn is_fault(alloc: Global, error: &WorldError) -> Result<(), Wrong> {
+    match error {
+        WorldError::StoreFault { .. } => Ok(()),
+        _ => Err(Wrong::seen(alloc, "opening:", words_of(error))),
     }
-    let wrong = Wrong::seen(alloc, "opening:", words_of(&error));
-    mem::drop(error);
-    Err(wrong)
 }
 
 /// A world that was not opened has no index yet.
-pub fn is_vacant(alloc: Global, error: WorldError) -> Result<(), Wrong> {
-    if let WorldError::NoIndex = &error {
-        mem::drop(error);
-        return Ok(());
+pub fn is_vacant(alloc: Global, error: &WorldError) -> Result<(), Wrong> {
+    match error {
+        WorldError::NoIndex => Ok(()),
+        _ => Err(Wrong::seen(alloc, "reading:", words_of(error))),
     }
-    let wrong = Wrong::seen(alloc, "reading:", words_of(&error));
-    mem::drop(error);
-    Err(wrong)
+}
+
+fn is_no_index(error: &WorldError) -> bool {
+    match error {
+        WorldError::NoIndex => true,
+        _ => false,
+    }
+}
+
+fn make<S: ObjectStore + Drop>(
+    alloc: Global,
+    store: S,
+) -> Result<World<S, ScriptClock>, WorldError> {
+    match World::create(alloc, store, ScriptClock::at(0), CONFIG.as_bytes()) {
+        Ok(world) => Ok(world),
+        Err(Unopened { error, store }) => {
+            mem::drop(store);
+            Err(error)
+        }
+    }
+}
+
+// An index is made, where it was not opened for want of one.
+fn make_lacking<S: ObjectStore + Drop>(
+    alloc: Global,
+    store: S,
+    error: WorldError,
+) -> Result<World<S, ScriptClock>, WorldError> {
+    if is_no_index(&error) {
+        mem::drop(error);
+        make(alloc, store)
+    } else {
+        mem::drop(store);
+        Err(error)
+    }
 }
 
 // The index of a store, which is made where there is none.
@@ -125,22 +154,7 @@ fn open<S: ObjectStore + Drop>(
 ) -> Result<World<S, ScriptClock>, WorldError> {
     match World::load(alloc, store, ScriptClock::at(0)) {
         Ok(world) => Ok(world),
-        Err(
-            Unopened {
-                error: WorldError::NoIndex,
-                store,
-            },
-        ) => match World::create(alloc, store, ScriptClock::at(0), CONFIG.as_bytes()) {
-            Ok(world) => Ok(world),
-            Err(Unopened { error, store }) => {
-                mem::drop(store);
-                Err(error)
-            }
-        },
-        Err(Unopened { error, store }) => {
-            mem::drop(store);
-            Err(error)
-        }
+        Err(Unopened { error, store }) => make_lacking(alloc, store, error),
     }
 }
 
@@ -169,10 +183,36 @@ fn start<S: ObjectStore + Drop, L: SourceLog>(
 impl<'a> Session<'a> {
     /// Opens the index, indexes, and searches.
     pub fn play<Rt: Threads + Sync>(&self, rt: &Rt, book: &mut Book) -> Result<Told, Wrong> {
-        let store = FolderStore::writing(self.alloc, self.files, "store", self.writer)?;
+        let logs = self.logs()?;
+        match FolderStore::writing(self.alloc, self.files, "store", self.writer) {
+            Ok(store) => self.play_over(rt, book, store, logs),
+            Err(refused) => {
+                mem::drop(logs);
+                Err(Wrong::from(refused))
+            }
+        }
+    }
+
+    fn logs(&self) -> Result<Vec<FileLog<'a, MemoryFiles>>, Wrong> {
+        let log = FileLog::over(self.alloc, self.files, "logs")?;
         let mut logs = Vec::new(self.alloc);
-        logs.push(FileLog::over(self.alloc, self.files, "logs")?)?;
-        self.play_over(rt, book, store, logs)
+        match logs.push(log) {
+            Ok(()) => Ok(logs),
+            Err(refused) => {
+                mem::drop(logs);
+                Err(Wrong::from(refused))
+            }
+        }
+    }
+
+    // A life whose index was not opened ends with that.
+    fn end(&self, book: &mut Book, error: &WorldError) -> Result<Told, Wrong> {
+        is_fault(self.alloc, error)?;
+        book.look(self.disk, false)?;
+        Ok(Told {
+            fault: true,
+            found: false,
+        })
     }
 
     fn play_over<Rt: Threads + Sync, S: ObjectStore + Drop, L: SourceLog>(
@@ -186,12 +226,9 @@ impl<'a> Session<'a> {
             Ok(world) => world,
             Err(error) => {
                 mem::drop(logs);
-                is_fault(self.alloc, error)?;
-                book.look(self.disk, false)?;
-                return Ok(Told {
-                    fault: true,
-                    found: false,
-                });
+                let told = self.end(book, &error);
+                mem::drop(error);
+                return told;
             }
         };
         let mut node = start(self.alloc, world, logs)?;
@@ -223,6 +260,18 @@ impl<'a> Session<'a> {
         })
     }
 
+    fn step<Rt: Threads + Sync, S: ObjectStore + Drop, L: SourceLog>(
+        &self,
+        rt: &Rt,
+        book: &mut Book,
+        node: &mut DriveNode<S, L>,
+    ) -> Result<Said, Wrong> {
+        let text = answered(rt, self.alloc, node, "indexer 0")?;
+        let said = Said::of(self.alloc, text.as_str())?;
+        book.look(self.disk, !said.is_fault())?;
+        Ok(said)
+    }
+
     // Indexes until all is indexed, or so many splits are. Whether a fault was told, and whether all is indexed. Behind a fault of
     // the log its records may be passed over once, so that all is indexed only where that is said again.
     fn index<Rt: Threads + Sync, S: ObjectStore + Drop, L: SourceLog>(
@@ -238,9 +287,7 @@ impl<'a> Session<'a> {
         let mut published: u64 = 0;
         let mut passes_over = false;
         for _ in 0..STEPS {
-            let text = answered(rt, self.alloc, node, "indexer 0")?;
-            let said = Said::of(self.alloc, text.as_str())?;
-            book.look(self.disk, !said.is_fault())?;
+            let said = self.step(rt, book, node)?;
             match said {
                 Said::Going => {}
                 Said::Published => published = published.saturating_add(1),
@@ -283,10 +330,9 @@ impl<'a> Session<'a> {
         let alloc = self.alloc;
         let mut found: u64 = 0;
         for number in 1..=self.records {
-            let record = format!(in alloc; "{{\"n\":{number}}}")?;
-            match text.split(record.as_str()).count() {
-                1 => {}
-                2 => found = found.saturating_add(1),
+            match times(alloc, text, number)? {
+                0 => {}
+                1 => found = found.saturating_add(1),
                 _ => return Err(Wrong::seen(alloc, "answered twice", text)),
             }
         }
@@ -301,6 +347,35 @@ impl<'a> Session<'a> {
     }
 }
 
+// How often an answer has the record of a number.
+fn times(alloc: Global, text: &str, number: u64) -> Result<usize, AllocError> {
+    let record = format!(in alloc; "{{\"n\":{number}}}")?;
+    Ok(text.split(record.as_str()).count().saturating_sub(1))
+}
+
+fn line_of(alloc: Global, text: &str) -> Result<Line, Wrong> {
+    match read_line(alloc, text.as_bytes()) {
+        Ok(line) => Ok(line),
+        Err(LineError::BadLine) => Err(Wrong::seen(alloc, "no line", text)),
+        Err(LineError::Memory(refused)) => Err(Wrong::from(refused)),
+    }
+}
+
+fn stepped<Rt: Threads + Sync, S: ObjectStore + Drop, L: SourceLog>(
+    rt: &Rt,
+    alloc: Global,
+    node: &mut DriveNode<S, L>,
+    line: &Line,
+) -> Result<String, Wrong> {
+    match node.accepts(line) {
+        Accepts::Yes => {
+            let out = node.step(rt, alloc, line)?;
+            Ok(String::from_utf8_lossy(alloc, out.bytes.as_slice())?)
+        }
+        Accepts::BadLine | Accepts::TooManyClients => Err(Wrong::seen(alloc, "a line", "refused")),
+    }
+}
+
 // What a node answers to a line.
 fn answered<Rt: Threads + Sync, S: ObjectStore + Drop, L: SourceLog>(
     rt: &Rt,
@@ -308,16 +383,8 @@ fn answered<Rt: Threads + Sync, S: ObjectStore + Drop, L: SourceLog>(
     node: &mut DriveNode<S, L>,
     text: &str,
 ) -> Result<String, Wrong> {
-    let line = match read_line(alloc, text.as_bytes()) {
-        Ok(line) => line,
-        Err(LineError::BadLine) => return Err(Wrong::seen(alloc, "no line", text)),
-        Err(LineError::Memory(refused)) => return Err(Wrong::from(refused)),
-    };
-    match node.accepts(&line) {
-        Accepts::Yes => {
-            let out = node.step(rt, alloc, &line)?;
-            Ok(String::from_utf8_lossy(alloc, out.bytes.as_slice())?)
-        }
-        Accepts::BadLine | Accepts::TooManyClients => Err(Wrong::seen(alloc, "refused", text)),
-    }
+    let line = line_of(alloc, text)?;
+    let answer = stepped(rt, alloc, node, &line);
+    mem::drop(line);
+    answer
 }

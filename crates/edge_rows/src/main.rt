@@ -15,7 +15,7 @@ mod wrong;
 
 use crate::table::play_table;
 use object_store::{CreateError, GetError, Key, ObjectStore};
-use real_edge::{FileLog, FolderStore};
+use real_edge::{FileLog, FolderStore, HostDisk};
 use source_checkpoint::Partition;
 use source_log::SourceLog;
 use std::alloc::{AllocError, Global};
@@ -192,6 +192,52 @@ fn laid<F: Files>(files: &F, alloc: Global, asked: &str, rest: &str) -> io::Resu
     Ok(String::from_str(alloc, "ok")?)
 }
 
+// What comes of a line, by its first word and what stands behind it.
+fn answer<F: Files, S: ObjectStore, R: ObjectStore, L: SourceLog>(
+    files: &F,
+    alloc: Global,
+    store: &mut S,
+    reader: &mut R,
+    log: &mut L,
+    asked: &str,
+    rest: &str,
+) -> io::Result<String> {
+    match asked {
+        "folder" | "file" => laid(files, alloc, asked, rest),
+        "partitions" | "read" => Ok(logged(alloc, log, asked, rest)?),
+        "page" => Ok(stored(alloc, reader, "list", rest)?),
+        _ => Ok(stored(alloc, store, asked, rest)?),
+    }
+}
+
+fn answer_line<
+    Rt: Threads + Sync + Print + Files + Clock,
+    S: ObjectStore,
+    R: ObjectStore,
+    L: SourceLog,
+>(
+    rt: &Rt,
+    alloc: Global,
+    store: &mut S,
+    reader: &mut R,
+    log: &mut L,
+    line: &str,
+) -> io::Result<()> {
+    let (asked, rest) = line.split_once(' ').unwrap_or((line, ""));
+    match asked {
+        "faults" => play_table(rt, alloc, number(Some(rest)).max(1)),
+        "wait" => {
+            thread::sleep(rt, Duration::from_secs(STILL));
+            Ok(())
+        }
+        _ => {
+            let text = answer(rt, alloc, store, reader, log, asked, rest)?;
+            println!(rt; "{text}")?;
+            Ok(())
+        }
+    }
+}
+
 // Answers the lines of the standard input. The reader is another store over the same folder.
 fn answer_all<
     Rt: Threads + Sync + Input + Print + Files + Clock,
@@ -201,22 +247,7 @@ fn answer_all<
 >(rt: &Rt, alloc: Global, store: &mut S, reader: &mut R, log: &mut L) -> io::Result<()> {
     for line in rt.lines(alloc) {
         let line = line?;
-        let (asked, rest) = line.split_once(' ').unwrap_or((line.as_str(), ""));
-        if asked == "faults" {
-            play_table(rt, alloc, number(Some(rest)).max(1))?;
-            continue;
-        }
-        if asked == "wait" {
-            thread::sleep(rt, Duration::from_secs(STILL));
-            continue;
-        }
-        let answer = match asked {
-            "folder" | "file" => laid(rt, alloc, asked, rest)?,
-            "partitions" | "read" => logged(alloc, log, asked, rest)?,
-            "page" => stored(alloc, reader, "list", rest)?,
-            _ => stored(alloc, store, asked, rest)?,
-        };
-        println!(rt; "{answer}")?;
+        answer_line(rt, alloc, store, reader, log, line.as_str())?;
     }
     Ok(())
 }
@@ -225,7 +256,7 @@ fn answer_all<
 fn store_of<'a>(
     rt: &'a HostRuntime,
     word: Option<&str>,
-) -> Result<FolderStore<'a, HostRuntime>, AllocError> {
+) -> Result<FolderStore<HostDisk<'a, HostRuntime>>, AllocError> {
     match word {
         Some("reading") => FolderStore::reading(rt.alloc(), rt, "store"),
         word => FolderStore::writing(rt.alloc(), rt, "store", number(word)),

@@ -58,6 +58,8 @@ pub struct State {
     changes: u64,
     plan: Option<Plan>,
     struck: bool,
+    /// The sync of a folder failed.
+    lost_folder: bool,
     keeps_files: bool,
     /// A name that no listing gives, as one that was made while the listing went on.
     overlooked: Option<String>,
@@ -116,6 +118,7 @@ impl MemoryDisk {
             changes: 0,
             plan: None,
             struck: false,
+            lost_folder: false,
             keeps_files: false,
             overlooked: None,
         });
@@ -143,6 +146,7 @@ impl State {
         self.plan = plan;
         self.calls = 0;
         self.struck = false;
+        self.lost_folder = false;
     }
 
     /// From here on each removal of a file is refused, or none.
@@ -173,9 +177,9 @@ impl State {
         self.changes
     }
 
-    /// Whether calls succeed from here on.
+    /// Whether calls succeed from here on, and no sync of a folder failed.
     pub fn is_sound(&self) -> bool {
-        !self.is_dead() && !self.keeps_files
+        !self.is_dead() && !self.keeps_files && !self.lost_folder
     }
 
     /// Whether a call went as the plan says.
@@ -368,6 +372,13 @@ impl State {
         self.locked.retain(|one| *one != node);
     }
 
+    /// The sync of a file or a folder failed. Behind that of a folder a store makes no object more.
+    pub fn lose_sync(&mut self, node: usize) {
+        if let Some(Node::Folder(_)) = self.nodes.get(node) {
+            self.lost_folder = true;
+        }
+    }
+
     /// What a file or a folder has is on the disk.
     pub fn sync(&mut self, node: usize) -> io::Result<()> {
         match self.nodes.get_mut(node) {
@@ -413,18 +424,29 @@ impl State {
             let Some(next) = folders.pop() else {
                 break;
             };
-            for name in self.names(next.node)? {
-                if name.stands {
-                    let within = self.within(&next, name)?;
-                    if self.is_folder(name.node) {
-                        folders.push(within)?;
-                    } else {
-                        found.push(within)?;
-                    }
+            self.look_in(&next, &mut folders, &mut found)?;
+        }
+        Ok(found)
+    }
+
+    // What stands in a folder: the folders, and the files.
+    fn look_in(
+        &self,
+        folder: &Found,
+        folders: &mut Vec<Found>,
+        files: &mut Vec<Found>,
+    ) -> io::Result<()> {
+        for name in self.names(folder.node)? {
+            if name.stands {
+                let within = self.within(folder, name)?;
+                if self.is_folder(name.node) {
+                    folders.push(within)?;
+                } else {
+                    files.push(within)?;
                 }
             }
         }
-        Ok(found)
+        Ok(())
     }
 
     // What a name in a folder names.

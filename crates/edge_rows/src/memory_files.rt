@@ -215,8 +215,14 @@ impl OpenFile for MemoryFile {
 
     fn sync_all(&self) -> io::Result<()> {
         let mut state = self.disk.state()?;
-        let turn = state.turn()?;
-        turn.end(state.sync(self.node))
+        let synced = match state.turn() {
+            Ok(turn) => turn.end(state.sync(self.node)),
+            Err(fault) => Err(fault),
+        };
+        if synced.is_err() {
+            state.lose_sync(self.node);
+        }
+        synced
     }
 
     fn sync_data(&self) -> io::Result<()> {

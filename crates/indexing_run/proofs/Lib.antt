@@ -11,3 +11,8 @@ pub mod Printing
 pub mod Ended
 pub mod Watching
 pub mod Indexes
+pub mod Rising
+pub mod Caught
+pub mod Appended
+pub mod Nearing
+pub mod Turns

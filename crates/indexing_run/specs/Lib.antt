@@ -7,3 +7,4 @@ pub mod Making
 pub mod Standing
 pub mod Ending
 pub mod IndexAll
+pub mod IndexLaws

@@ -18,7 +18,7 @@ use crate::reasons::{Reasoned, reason_of_logs, tell_reason, tell_status};
 use crate::serving::serve_with_logs;
 use command_words::{Command, read_words};
 use object_store::{ObjectStore, SteadyStore};
-use real_edge::{FileLog, FolderStore, StdSink, StdSource, SystemClock};
+use real_edge::{FileLog, FolderStore, HostDisk, StdSink, StdSource, SystemClock};
 use source_log::{MemoryLog, SourceLog};
 use std::alloc::{AllocError, Global};
 use std::fs::Files;
@@ -138,7 +138,7 @@ fn folder_store<'a>(
     system: &'a HostRuntime,
     folder: &str,
     words: &[String],
-) -> Result<FolderStore<'a, HostRuntime>, AllocError> {
+) -> Result<FolderStore<HostDisk<'a, HostRuntime>>, AllocError> {
     let alloc = system.alloc();
     if is_writing(alloc, words)? {
         FolderStore::writing(alloc, system, folder, writer_number(system))

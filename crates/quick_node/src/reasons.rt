@@ -2,7 +2,7 @@
 
 use node_run::Logs;
 use object_store::SteadyStore;
-use real_edge::{FileLog, FolderStore, Reason, WriterLock};
+use real_edge::{Disk, FileLog, FolderStore, Reason};
 use source_log::{MemoryLog, SourceLog};
 use std::fs::Files;
 
@@ -21,7 +21,7 @@ pub trait Reasoned {
     fn first_reason(&self) -> Option<&Reason>;
 }
 
-impl<'a, F: WriterLock> Reasoned for FolderStore<'a, F> {
+impl<D: Disk> Reasoned for FolderStore<D> {
     fn first_reason(&self) -> Option<&Reason> {
         self.first_reason()
     }

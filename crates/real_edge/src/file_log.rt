@@ -4,8 +4,9 @@ ghost use Rattle.std.specs.Prelude.{◌≡◌, ◌≤◌, [], None, IfOk, length
 ghost use Rattle.byte_fields.specs.Causes.{HasCause};
 ghost use Rattle.source_log.specs.declared.log.ReadError.TheVariants.{Failed};
 
+use crate::disk::Standing;
 use crate::faults::{Faults, Reason, Trouble, tried};
-use crate::folder_path::{FolderPath, Standing, standing_at};
+use crate::folder_path::{FolderPath, standing_at};
 use crate::log_lines::{Mark, read_records};
 use source_checkpoint::Partition;
 use source_log::{Partitions, ReadError, RecordList, Records, SourceLog};

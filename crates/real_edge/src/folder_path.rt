@@ -1,5 +1,6 @@
 //! The paths of what lies in a folder, and what stands under them.
 
+use crate::disk::Standing;
 use crate::faults::{Trouble, tried};
 use std::alloc::{AllocError, Global};
 use std::fs::{self, Files};
@@ -8,16 +9,7 @@ use std::io::{self, ErrorKind};
 /// What a key's path adds to a folder's path at most.
 const LONGEST: usize = 256;
 
-/// What stands under a path. No link is followed.
-#[derive(Clone, Copy)]
-pub enum Standing {
-    Nothing,
-    PlainFile,
-    Folder,
-    /// A link, a FIFO, a socket or a device.
-    Other,
-}
-
+/// What stands under a path.
 pub fn standing_at<F: Files>(files: &F, path: &str) -> io::Result<Standing> {
     match fs::symlink_metadata(files, path) {
         Ok(found) if found.is_file() => Ok(Standing::PlainFile),

@@ -1,24 +1,14 @@
 //! A folder whose names were read, and whether they are still its names.
 
-use crate::folder_path::{FolderPath, Standing};
+ghost use Rattle.std.specs.Prelude.{◌≡◌};
+ghost use Rattle.real_edge.specs.Disk.{Leaves};
+ghost use Rattle.real_edge.specs.Folders.{folder_key};
+
+use crate::disk::{Disk, Stamp};
 use object_store::Key;
-use std::alloc::AllocError;
-use std::fs::{self, Files, Metadata};
-use std::os::unix::fs::MetadataExt;
-use std::str;
-use std::time::Clock;
 
 /// File systems tell the moment of a change in steps of so many seconds at most.
 const STEP: u64 = 2;
-
-/// Which folder stands there, and the moment at which it changed last.
-#[derive(Clone, Copy, PartialEq, Eq)]
-struct Stamp {
-    device: u64,
-    node: u64,
-    second: u64,
-    nanos: i64,
-}
 
 /// A folder whose names were read.
 #[derive(Drop)]
@@ -31,92 +21,63 @@ pub struct FolderRead {
     stamp: Option<Stamp>,
 }
 
-/// The text of a key, all of whose bytes are ASCII.
-pub fn text_of(key: &Key) -> &str {
-    str::from_utf8(key.as_bytes()).unwrap_or("")
-}
-
-// None where the system doesn't tell when the folder changed.
-fn stamp_of(found: &Metadata) -> Option<Stamp> {
-    match u64::try_from(found.ctime()) {
-        Ok(second) if second > 0 => Some(Stamp {
-            device: found.dev(),
-            node: found.ino(),
-            second,
-            nanos: found.ctime_nsec(),
-        }),
-        _ => None,
-    }
-}
-
 impl FolderRead {
     /// A folder that is to be read now.
-    pub fn beginning<C: Clock>(clock: &C, folder: Option<Key>) -> FolderRead {
-        let began = match clock.since_1970() {
-            Ok(since) => Some(since.as_secs()),
-            Err(_) => None,
-        };
+    pub fn beginning<D: Disk>(disk: &D, folder: Option<Key>) -> FolderRead
+        ensures { result.folder ≡ folder }
+    {
         FolderRead {
             folder,
-            began,
+            began: disk.second(),
             stamp: None,
         }
     }
 
     /// Whether a key is of this folder.
     pub fn is_around(&self, key: &Key) -> bool {
+        key.as_bytes().starts_with(self.name())
+    }
+
+    /// The folder's key, or nothing.
+    pub fn name(&self) -> &[u8]
+        ensures { result.now ≡ folder_key self.now.folder }
+    {
         match &self.folder {
-            None => true,
-            Some(folder) => key.as_bytes().starts_with(folder.as_bytes()),
+            None => &[],
+            Some(folder) => folder.as_bytes(),
         }
     }
 
-    // What stands there now, where no link leads there.
-    fn stamp_now<F: Files>(
-        &self,
-        files: &F,
-        place: &mut FolderPath,
-    ) -> Result<Option<Stamp>, AllocError> {
-        match &self.folder {
-            None => place.go_back()?,
-            Some(folder) => {
-                place.go_to(text_of(folder))?;
-                let Ok(Standing::Folder) = place.standing(files) else {
-                    return Ok(None);
-                };
-            }
+    // Keeps what stands there, the first time.
+    fn keep_stamp<D: Disk>(&mut self, disk: &mut D)
+        ensures { Leaves (D.told disk.old) (D.told disk.new) (D.may_leave disk.old) (D.may_leave disk.new) (D.has_way disk.old) (D.has_way disk.new) }
+    {
+        if self.stamp.is_some() {
+            return;
         }
-        match fs::metadata(files, place.path()) {
-            Ok(found) => Ok(stamp_of(&found)),
-            Err(_) => Ok(None),
-        }
+        let found = disk.stamp(self.name());
+        self.stamp = found;
     }
 
     /// Keeps what stands there, and says whether that had not changed for a while when its reading began: then it did not change in
     /// the reading, and each change that comes shows.
-    pub fn settle<F: Files>(
-        &mut self,
-        files: &F,
-        place: &mut FolderPath,
-    ) -> Result<bool, AllocError> {
-        if self.stamp.is_none() {
-            self.stamp = self.stamp_now(files, place)?;
-        }
+    pub fn settle<D: Disk>(&mut self, disk: &mut D) -> bool
+        ensures { Leaves (D.told disk.old) (D.told disk.new) (D.may_leave disk.old) (D.may_leave disk.new) (D.has_way disk.old) (D.has_way disk.new) }
+    {
+        self.keep_stamp(disk);
         match (self.began, self.stamp) {
-            (Some(began), Some(stamp)) => Ok(stamp.second.saturating_add(STEP) < began),
-            _ => Ok(false),
+            (Some(began), Some(stamp)) => stamp.second.saturating_add(STEP) < began,
+            _ => false,
         }
     }
 
     /// Whether it has not changed since it was settled.
-    pub fn is_unchanged<F: Files>(
-        &self,
-        files: &F,
-        place: &mut FolderPath,
-    ) -> Result<bool, AllocError> {
-        match (self.stamp, self.stamp_now(files, place)?) {
-            (Some(kept), Some(found)) => Ok(kept == found),
-            _ => Ok(false),
+    pub fn is_unchanged<D: Disk>(&self, disk: &mut D) -> bool
+        ensures { Leaves (D.told disk.old) (D.told disk.new) (D.may_leave disk.old) (D.may_leave disk.new) (D.has_way disk.old) (D.has_way disk.new) }
+    {
+        match (self.stamp, disk.stamp(self.name())) {
+            (Some(kept), Some(found)) => kept == found,
+            _ => false,
         }
     }
 }

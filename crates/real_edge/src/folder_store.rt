@@ -1,205 +1,178 @@
-//! Objects as files of a folder.
+//! Objects as files of a disk.
 
-ghost use Rattle.std.specs.Prelude.{◌≡◌, ◌≤◌, None, IfOk, IfSome, length};
-ghost use Rattle.byte_fields.specs.Causes.{Rose};
+ghost use Rattle.std.specs.Prelude.{◌≡◌, ◌≤◌, None, Some, false, IfOk, IfSome, IsErr, IsErrOf, length};
+ghost use Rattle.std.specs.Option.{option_copied};
+ghost use Rattle.byte_fields.specs.Causes.{HasCause};
+ghost use Rattle.object_store.specs.Store.{AfterLanding, Creates, Gets, Deletes, Lists, given_more, is_wanted};
+ghost use Rattle.real_edge.specs.Answers.{get_answer};
+ghost use Rattle.real_edge.specs.Objects.{state_in, create_answer, delete_answer, IsPlaced, IsTaken, KeepsSafe};
+ghost use Rattle.real_edge.specs.declared.folder_walk.Walk.{Walk};
+ghost use Rattle.real_edge.specs.Disk.{Files};
+ghost use Rattle.real_edge.specs.Walk.{IsLed};
 
-use crate::faults::{Faults, Reason, Trouble, tried};
+use crate::disk::{Disk, DiskError, MakeError};
+use crate::faults::{Faults, Reason, Trouble};
 use crate::folder_path::FolderPath;
 use crate::folder_walk::Walk;
-use crate::leftovers::remove_leftovers;
-use crate::object_making::{Maker, remove_object};
-use crate::object_reading::read_piece;
-use crate::writer_lock::{LOCK, WriterLock, locked};
+use crate::host_disk::HostDisk;
+use crate::object_calls::{Page, keys_of, make, piece_of, take_out};
+use crate::object_making::Writer;
+use crate::writer_lock::WriterLock;
 use byte_fields::Failed;
 use object_store::{CreateError, GetError, Key, Keys, ListError, ObjectStore, Piece, given_behind};
 use std::alloc::{AllocError, Global};
-use std::str;
 
-/// A folder's writer.
+/// Objects as files of a disk, each a plain file under its key, whose parts before a slash are folders.
+///
+/// A create writes a file beside, whose name no file had, puts it on the disk, links it under the key's name where nothing has that
+/// name, removes the first name, and puts the folder on the disk, so that a key never has half of an object, and an object that
+/// stands keeps its bytes. What is no plain file is no object.
 #[derive(Drop)]
-struct Writer<H: Drop> {
-    maker: Maker,
-    /// The locked file, once it is.
-    held: Option<H>,
-    has_cleared: bool,
-}
-
-/// A folder of objects, and who may write it.
-#[derive(Drop)]
-struct Folder<'a, F: WriterLock> {
-    files: &'a F,
-    place: FolderPath,
-    writer: Option<Writer<F::File>>,
+pub struct FolderStore<D: Disk> {
+    disk: D,
+    writer: Option<Writer>,
     /// What gave the last page of a listing, where the page behind it may go on from there.
     walk: Option<Walk>,
-}
-
-/// Objects in a folder: each is a plain file, and the parts of its key are folders. It tells nothing.
-///
-/// A create writes a file beside, whose name no file had, syncs it, links it under the key's name where nothing has that name,
-/// removes the first name, and syncs the folder, so that a key never has half of an object, and an object that stands keeps its
-/// bytes. A key with an empty part is no path: it never stands, and making it fails. No link within the folder is followed, and
-/// what is no plain file is no object.
-#[derive(Drop)]
-pub struct FolderStore<'a, F: WriterLock> {
-    folder: Folder<'a, F>,
+    ghost walks: { (files : Files) → D.told disk ≡ Some files → (rests : Walk) → walk ≡ Some rests → IsLed rests files },
     faults: Faults,
     // How many bytes it gave.
     given: u64,
 }
 
-// The key as a path in the folder, if it is one.
-fn key_name(key: &Key) -> Option<&str> {
-    match str::from_utf8(key.as_bytes()) {
-        Ok(name) if !name.split('/').any(|part| part.is_empty()) => Some(name),
-        _ => None,
-    }
-}
-
-impl<'a, F: WriterLock> Folder<'a, F> {
-    // A writer's folder is locked. It takes no memory.
-    fn lock(&mut self) -> Result<(), Trouble> {
-        if let Some(writer) = &mut self.writer {
-            if writer.held.is_none() {
-                self.place.go_to(LOCK)?;
-                writer.held = Some(locked(self.files, self.place.path())?);
-            }
-        }
-        Ok(())
-    }
-
-    // A writer's folder is locked, and has no files beside of others.
-    fn begin(&mut self, alloc: Global) -> Result<(), Trouble> {
-        self.lock()?;
-        if let Some(writer) = &mut self.writer {
-            if !writer.has_cleared {
-                let cleared = remove_leftovers(self.files, alloc, self.place.folder());
-                tried("reading", cleared)?;
-                writer.has_cleared = true;
-            }
-        }
-        Ok(())
-    }
-
-    // No page goes on from names among which this key may come or go.
-    fn forget(&mut self, key: &Key) {
-        if let Some(walk) = &self.walk {
-            if walk.seeks(key) {
-                self.walk = None;
-            }
-        }
-    }
-
-    fn make(&mut self, alloc: Global, key: &Key, content: &[u8]) -> Result<bool, Trouble> {
-        self.forget(key);
-        self.begin(alloc)?;
-        let Some(name) = key_name(key) else {
-            self.place.go_back()?;
-            return Err(Trouble::of("making an object in", "a key has an empty part"));
-        };
-        self.place.go_to(name)?;
-        match &mut self.writer {
-            Some(writer) => writer.maker.make(self.files, alloc, &self.place, content),
-            None => Err(Trouble::of("making", "the store is only read")),
-        }
-    }
-
-    fn piece(
-        &mut self,
-        alloc: Global,
-        key: &Key,
-        from: u64,
-        len: u64,
-    ) -> Result<Option<Piece>, Trouble>
-        ensures bound { IfOk result (λ found. IfSome found (λ piece. length piece.bytes ≤ len)) }
+impl<D: Disk> FolderStore<D> {
+    fn over(alloc: Global, disk: D, writer: Option<Writer>) -> Result<FolderStore<D>, AllocError>
+        ensures { IfOk result (λ store. store.disk ≡ disk) }
     {
-        self.begin(alloc)?;
-        let Some(name) = key_name(key) else {
-            self.place.require(self.files)?;
-            return Ok(None);
-        };
-        self.place.go_to(name)?;
-        read_piece(self.files, alloc, &mut self.place, from, len)
-    }
-
-    fn remove(&mut self, key: &Key) -> Result<(), Trouble> {
-        self.forget(key);
-        self.lock()?;
-        let Some(name) = key_name(key) else {
-            return self.place.require(self.files);
-        };
-        self.place.go_to(name)?;
-        if self.writer.is_none() {
-            return Err(Trouble::of("removing", "the store is only read"));
-        }
-        remove_object(self.files, &mut self.place)
-    }
-
-    // What gives the page behind a key: the walk that gave the page before it, where it can go on, or else a new one.
-    fn walk_to(
-        &mut self,
-        alloc: Global,
-        prefix: &Key,
-        after: Option<&Key>,
-    ) -> Result<Walk, Trouble> {
-        if let Some(walk) = self.walk.take() {
-            if walk.can_go_on(self.files, &mut self.place, prefix, after)? {
-                return Ok(walk);
-            }
-        }
-        Walk::start(self.files, alloc, &mut self.place, prefix, after)
-    }
-
-    fn keys(
-        &mut self,
-        alloc: Global,
-        prefix: &Key,
-        after: Option<&Key>,
-        max: u32,
-    ) -> Result<Keys, Trouble>
-        ensures bound { IfOk result (λ keys. length keys ≤ max) }
-    {
-        self.begin(alloc)?;
-        let mut walk = self.walk_to(alloc, prefix, after)?;
-        let keys = walk.page(self.files, alloc, &mut self.place, max)?;
-        let is_full = keys.len() >= max as usize;
-        if let Some(last) = keys.as_slice().last() {
-            if is_full && walk.rest(self.files, &mut self.place, last)? {
-                self.walk = Some(walk);
-            }
-        }
-        Ok(keys)
-    }
-}
-
-impl<'a, F: WriterLock> FolderStore<'a, F> {
-    fn over(
-        alloc: Global,
-        files: &'a F,
-        folder: &str,
-        writer: Option<Writer<F::File>>,
-    ) -> Result<FolderStore<'a, F>, AllocError> {
-        let place = FolderPath::of(alloc, folder)?;
-        let faults = Faults::with_room(alloc, FolderPath::room(folder))?;
+        let faults = Faults::with_room(alloc, FolderPath::room(disk.path()))?;
         Ok(FolderStore {
-            folder: Folder {
-                files,
-                place,
-                writer,
-                walk: None,
-            },
+            disk,
+            writer,
+            walk: None,
             faults,
             given: 0,
         })
     }
 
+    /// The objects of this disk, to be read: each create and each delete is a failure. Nothing is asked of the disk yet.
+    pub fn reader_of(alloc: Global, disk: D) -> Result<FolderStore<D>, AllocError>
+        ensures { IfOk result (λ store. store.disk ≡ disk) }
+    {
+        FolderStore::over(alloc, disk, None)
+    }
+
+    /// The objects of this disk, to be read and written. The first call removes what killed writers left beside the objects.
+    /// `writer` names the files beside. Nothing is asked of the disk yet.
+    pub fn writer_of(alloc: Global, disk: D, writer: u64) -> Result<FolderStore<D>, AllocError>
+        ensures { IfOk result (λ store. store.disk ≡ disk) }
+    {
+        FolderStore::over(alloc, disk, Some(Writer::of(writer)))
+    }
+
+    /// Why it failed first, if it did.
+    pub fn first_reason(&self) -> Option<&Reason> {
+        self.faults.first()
+    }
+
+    // No page goes on from names among which this key may come or go.
+    fn forget(&mut self, key: &Key)
+        ensures disk { self.new.disk ≡ self.old.disk }
+        ensures faults { self.new.faults.count ≡ self.old.faults.count }
+        ensures given { self.new.given ≡ self.old.given }
+        ensures walk { IfSome self.new.walk (λ walk. is_wanted walk.prefix walk.after key.now ≡ false) }
+    {
+        self.walk = without(self.walk.take(), key);
+    }
+}
+
+// The walk, where it doesn't come to a key.
+fn without(walk: Option<Walk>, key: &Key) -> Option<Walk>
+    ensures unsought { IfSome result (λ walk. is_wanted walk.prefix walk.after key.now ≡ false) }
+    ensures kept { (rests : Walk) → result ≡ Some rests → walk ≡ Some rests }
+{
+    match walk {
+        Some(walk) => { if walk.seeks(key) { None } else { Some(walk) } }
+        None => None,
+    }
+}
+
+// What a create answers. A failure is counted.
+fn answer_create(
+    faults: &mut Faults,
+    path: &str,
+    made: Result<(), MakeError>,
+) -> Result<(), CreateError>
+    ensures answer { result ≡ create_answer made }
+    ensures cause { HasCause faults.old.count faults.new.count (IsErrOf result CreateError.Failed) }
+{
+    match made {
+        Ok(()) => Ok(()),
+        Err(MakeError::Exists) => Err(CreateError::Exists),
+        Err(MakeError::Memory(refused)) => Err(CreateError::Memory(refused)),
+        Err(MakeError::Failed(trouble)) => {
+            faults.add(path, trouble);
+            Err(CreateError::Failed)
+        }
+    }
+}
+
+fn answer_get(
+    faults: &mut Faults,
+    path: &str,
+    found: Result<Option<Piece>, DiskError>,
+) -> Result<Piece, GetError>
+    ensures answer { result ≡ get_answer found }
+    ensures cause { HasCause faults.old.count faults.new.count (IsErrOf result GetError.Failed) }
+{
+    match found {
+        Ok(Some(piece)) => Ok(piece),
+        Ok(None) => Err(GetError::Absent),
+        Err(DiskError::Memory(refused)) => Err(GetError::Memory(refused)),
+        Err(DiskError::Failed(trouble)) => {
+            faults.add(path, trouble);
+            Err(GetError::Failed)
+        }
+    }
+}
+
+fn answer_delete(faults: &mut Faults, path: &str, taken: Result<(), Trouble>) -> Result<(), Failed>
+    ensures answer { result ≡ delete_answer taken }
+    ensures cause { HasCause faults.old.count faults.new.count (IsErr result) }
+{
+    match taken {
+        Ok(()) => Ok(()),
+        Err(trouble) => {
+            faults.add(path, trouble);
+            Err(Failed)
+        }
+    }
+}
+
+fn answer_list(faults: &mut Faults, path: &str, fault: DiskError) -> ListError
+    ensures { HasCause faults.old.count faults.new.count (result ≡ ListError.Failed) }
+{
+    match fault {
+        DiskError::Memory(refused) => ListError::Memory(refused),
+        DiskError::Failed(trouble) => {
+            faults.add(path, trouble);
+            ListError::Failed
+        }
+    }
+}
+
+impl<'a, F: WriterLock> FolderStore<HostDisk<'a, F>> {
     /// The objects of this folder, to be read: each create and each delete is a failure. Nothing is opened yet.
     pub fn reading(
         alloc: Global,
         files: &'a F,
         folder: &str,
-    ) -> Result<FolderStore<'a, F>, AllocError> {
-        FolderStore::over(alloc, files, folder, None)
+    ) -> Result<FolderStore<HostDisk<'a, F>>, AllocError> {
+        Ok(FolderStore {
+            disk: HostDisk::reading(alloc, files, folder)?,
+            writer: None,
+            walk: None,
+            faults: Faults::with_room(alloc, FolderPath::room(folder))?,
+            given: 0,
+        })
     }
 
     /// The objects of this folder, to be read and written by one program at a time: the first call locks the file `.lock` in it,
@@ -210,72 +183,57 @@ impl<'a, F: WriterLock> FolderStore<'a, F> {
         files: &'a F,
         folder: &str,
         writer: u64,
-    ) -> Result<FolderStore<'a, F>, AllocError> {
-        let writer = Writer {
-            maker: Maker::of(alloc, writer),
-            held: None,
-            has_cleared: false,
-        };
-        FolderStore::over(alloc, files, folder, Some(writer))
-    }
-
-    /// Why it failed first, if it did.
-    pub fn first_reason(&self) -> Option<&Reason> {
-        self.faults.first()
-    }
-
-    fn fail(&mut self, trouble: Trouble)
-        ensures later { self.old.faults.count ≤ self.new.faults.count }
-        ensures rose { Rose self.old.faults.count self.new.faults.count }
-        ensures given { self.new.given ≡ self.old.given }
-    {
-        self.faults.add(self.folder.place.path(), trouble);
+    ) -> Result<FolderStore<HostDisk<'a, F>>, AllocError> {
+        Ok(FolderStore {
+            disk: HostDisk::writing(alloc, files, folder)?,
+            writer: Some(Writer::of(writer)),
+            walk: None,
+            faults: Faults::with_room(alloc, FolderPath::room(folder))?,
+            given: 0,
+        })
     }
 }
 
-impl<'a, F: WriterLock> ObjectStore for FolderStore<'a, F> {
-    ghost told = { λ _. None };
+impl<D: Disk> ObjectStore for FolderStore<D> {
+    ghost told = { λ s. state_in (D.told s.disk) };
 
     ghost fault_count = { λ s. s.faults.count };
 
     ghost given = { λ s. s.given };
 
-    fn create(&mut self, alloc: Global, key: &Key, content: &[u8]) -> Result<(), CreateError> {
-        match self.folder.make(alloc, key, content) {
-            Ok(true) => Ok(()),
-            Ok(false) => Err(CreateError::Exists),
-            Err(trouble) if trouble.is_memory() => Err(CreateError::Memory(AllocError)),
-            Err(trouble) => {
-                self.fail(trouble);
-                Err(CreateError::Failed)
-            }
-        }
+    fn create(&mut self, alloc: Global, key: &Key, content: &[u8]) -> Result<(), CreateError>
+        ensures step { AfterLanding (state_in (D.told self.old.disk)) (state_in (D.told self.new.disk)) (Creates key.now content.now result) }
+        ensures cause { HasCause self.old.faults.count self.new.faults.count (IsErrOf result CreateError.Failed) }
+        // Behind an `Ok` no crash takes the object, and no call makes one that was on the disk less safe.
+        ensures disk { IfSome (D.told self.old.disk) (λ _. IsPlaced key.now content.now result (D.may_leave self.old.disk) (D.may_leave self.new.disk)) }
+    {
+        self.forget(key);
+        let made = make(&mut self.disk, alloc, &mut self.writer, key, content);
+        answer_create(&mut self.faults, self.disk.path(), made)
     }
 
-    fn get(&mut self, alloc: Global, key: &Key, from: u64, len: u64) -> Result<Piece, GetError> {
-        match self.folder.piece(alloc, key, from, len) {
-            Ok(Some(piece)) => {
-                let answer = Ok(piece);
-                self.given = given_behind(self.given, &answer);
-                answer
-            }
-            Ok(None) => Err(GetError::Absent),
-            Err(trouble) if trouble.is_memory() => Err(GetError::Memory(AllocError)),
-            Err(trouble) => {
-                self.fail(trouble);
-                Err(GetError::Failed)
-            }
-        }
+    fn get(&mut self, alloc: Global, key: &Key, from: u64, len: u64) -> Result<Piece, GetError>
+        ensures step { AfterLanding (state_in (D.told self.old.disk)) (state_in (D.told self.new.disk)) (Gets key.now from len result) }
+        ensures bound { IfOk result (λ piece. length piece.bytes ≤ len) }
+        ensures given { self.new.given ≡ given_more result self.old.given }
+        ensures cause { HasCause self.old.faults.count self.new.faults.count (IsErrOf result GetError.Failed) }
+        ensures disk { IfSome (D.told self.old.disk) (λ _. KeepsSafe (D.may_leave self.old.disk) (D.may_leave self.new.disk)) }
+    {
+        let found = piece_of(&mut self.disk, alloc, &mut self.writer, key, from, len);
+        let answer = answer_get(&mut self.faults, self.disk.path(), found);
+        self.given = given_behind(self.given, &answer);
+        answer
     }
 
-    fn delete(&mut self, key: &Key) -> Result<(), Failed> {
-        match self.folder.remove(key) {
-            Ok(()) => Ok(()),
-            Err(trouble) => {
-                self.fail(trouble);
-                Err(Failed)
-            }
-        }
+    fn delete(&mut self, key: &Key) -> Result<(), Failed>
+        ensures step { AfterLanding (state_in (D.told self.old.disk)) (state_in (D.told self.new.disk)) (Deletes key.now result) }
+        ensures cause { HasCause self.old.faults.count self.new.faults.count (IsErr result) }
+        // Behind an `Ok` no crash brings the object back, and no call makes another that was on the disk less safe.
+        ensures disk { IfSome (D.told self.old.disk) (λ _. IsTaken key.now result (D.may_leave self.old.disk) (D.may_leave self.new.disk)) }
+    {
+        self.forget(key);
+        let taken = take_out(&mut self.disk, self.writer.is_some(), key);
+        answer_delete(&mut self.faults, self.disk.path(), taken)
     }
 
     fn list(
@@ -284,14 +242,29 @@ impl<'a, F: WriterLock> ObjectStore for FolderStore<'a, F> {
         prefix: &Key,
         after: Option<&Key>,
         max: u32,
-    ) -> Result<Keys, ListError> {
-        match self.folder.keys(alloc, prefix, after, max) {
-            Ok(keys) => Ok(keys),
-            Err(trouble) if trouble.is_memory() => Err(ListError::Memory(AllocError)),
-            Err(trouble) => {
-                self.fail(trouble);
-                Err(ListError::Failed)
+    ) -> Result<Keys, ListError>
+        requires { 1 ≤ max }
+        ensures step { AfterLanding (state_in (D.told self.old.disk)) (state_in (D.told self.new.disk)) (Lists prefix.now (option_copied after.entry) max result) }
+        ensures bound { IfOk result (λ keys. length keys ≤ max) }
+        ensures cause { HasCause self.old.faults.count self.new.faults.count (IsErrOf result ListError.Failed) }
+        ensures disk { IfSome (D.told self.old.disk) (λ _. KeepsSafe (D.may_leave self.old.disk) (D.may_leave self.new.disk)) }
+    {
+        let walk = self.walk.take();
+        match keys_of(
+            &mut self.disk,
+            alloc,
+            &mut self.writer,
+            walk,
+            prefix,
+            after,
+            max,
+        ) {
+            Ok(page) => {
+                let Page { keys, walk } = page;
+                self.walk = walk;
+                Ok(keys)
             }
+            Err(fault) => Err(answer_list(&mut self.faults, self.disk.path(), fault)),
         }
     }
 

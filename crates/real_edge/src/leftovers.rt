@@ -1,99 +1,98 @@
 //! What killed writers left beside the objects.
 
-use crate::folder_path::{Standing, standing_at};
-use object_store::Key;
-use std::alloc::Global;
-use std::fs::{self, Files, Metadata};
-use std::io::{self, ErrorKind};
-use std::os::unix::fs::MetadataExt;
+ghost use Rattle.std.specs.Prelude.{◌≡◌, false};
+ghost use Rattle.real_edge.specs.Disk.{Where};
+ghost use Rattle.real_edge.specs.Names.{is_object};
+ghost use Rattle.real_edge.specs.Objects.{KeepsObjects};
 
-/// How the name of a file beside ends.
-pub const HALF: &str = ".half";
+use crate::disk::{Disk, DiskError, Standing};
+use crate::object_names::{is_object, is_of_beside, joined};
+use byte_fields::{Bytes, List};
+use std::alloc::{AllocError, Global};
 
-fn is_number(text: &str) -> bool {
-    !text.is_empty() && text.bytes().all(|byte| byte.is_ascii_digit())
-}
-
-// Whether a name is of the form of a file beside: `.7-12.half`, and `.7.half` as it was before.
-fn is_of_beside(name: &str) -> bool {
-    let Some(rest) = name.strip_prefix('.') else {
-        return false;
-    };
-    let Some(numbers) = rest.strip_suffix(HALF) else {
-        return false;
-    };
-    match numbers.split_once('-') {
-        Some((writer, count)) => is_number(writer) && is_number(count),
-        None => is_number(numbers),
+// A file beside is removed, where it is one.
+fn clear_beside<D: Disk>(disk: &mut D, path: &[u8], name: &[u8])
+    requires { is_object path.now ≡ false }
+    ensures { Where (D.told disk.old) (D.told disk.new) (KeepsObjects (D.may_leave disk.old) (D.may_leave disk.new)) }
+{
+    if !is_of_beside(name) {
+        return;
     }
-}
-
-// Whether a folder may have folders. Most file systems count a folder's folders with its names, of which it has two.
-fn may_have_folders(found: &Metadata) -> bool {
-    found.nlink() != 2
-}
-
-/// The folders that are still to be read.
-#[derive(Drop)]
-struct Search {
-    folders: Vec<String>,
-}
-
-impl Search {
-    // What an entry of a folder is: a file beside, which is removed, or a folder of keys.
-    fn take<F: Files>(
-        &mut self,
-        alloc: Global,
-        files: &F,
-        path: &str,
-        name: &str,
-        has_folders: bool,
-    ) -> io::Result<()> {
-        if is_of_beside(name) {
-            if let Ok(Standing::PlainFile) = standing_at(files, path) {
-                let _ = fs::remove_file(files, path);
-            }
-        } else if has_folders && Key::from_text(name).is_ok() {
-            if let Ok(Standing::Folder) = standing_at(files, path) {
-                self.folders.push(String::from_str(alloc, path)?)?;
-            }
+    match disk.look(path) {
+        Ok(Standing::PlainFile) => {
+            let _ = disk.remove(path);
         }
-        Ok(())
+        _ => {}
     }
+}
 
-    fn read<F: Files>(&mut self, alloc: Global, files: &F, folder: &str) -> io::Result<()> {
-        let has_folders = may_have_folders(&fs::metadata(files, folder)?);
-        for entry in fs::read_dir(&(files, alloc), folder)? {
-            match entry {
-                Ok(entry) => self.take(
-                    alloc,
-                    files,
-                    entry.path().as_str(),
-                    entry.file_name(),
-                    has_folders,
-                )?,
-                Err(fault) if fault.kind() == ErrorKind::InvalidFilename => {}
-                Err(fault) => return Err(fault),
-            }
-        }
-        Ok(())
+// What a name in a folder is: a folder of keys, which is to be read, or a file beside, which is removed.
+fn clear_name<D: Disk>(
+    disk: &mut D,
+    path: Vec<u8>,
+    name: &[u8],
+    has_folders: bool,
+    folders: &mut Vec<Bytes>,
+) -> Result<(), AllocError>
+    ensures { Where (D.told disk.old) (D.told disk.new) (KeepsObjects (D.may_leave disk.old) (D.may_leave disk.new)) }
+{
+    let mut path = path;
+    if !is_object(path.as_slice()) {
+        clear_beside(disk, path.as_slice(), name);
+        return Ok(());
     }
+    if !has_folders {
+        return Ok(());
+    }
+    match disk.look(path.as_slice()) {
+        Ok(Standing::Folder) => {
+            path.push(b'/')?;
+            folders.push(Bytes::from_vec(path))?;
+            Ok(())
+        }
+        _ => Ok(()),
+    }
+}
+
+// The names in a folder. None where it can't be read.
+fn names_of<D: Disk>(disk: &mut D, alloc: Global, folder: &[u8]) -> Result<List<Bytes>, AllocError>
+    ensures { Where (D.told disk.old) (D.told disk.new) (KeepsObjects (D.may_leave disk.old) (D.may_leave disk.new)) }
+{
+    match disk.names(alloc, folder) {
+        Ok(names) => Ok(names),
+        Err(DiskError::Memory(refused)) => Err(refused),
+        Err(DiskError::Failed(_)) => Ok(List::vacant(alloc)),
+    }
+}
+
+fn clear_folder<D: Disk>(
+    disk: &mut D,
+    alloc: Global,
+    folder: &[u8],
+    folders: &mut Vec<Bytes>,
+) -> Result<(), AllocError>
+    ensures { Where (D.told disk.old) (D.told disk.new) (KeepsObjects (D.may_leave disk.old) (D.may_leave disk.new)) }
+{
+    let has_folders = disk.may_have_folders(folder);
+    let names = names_of(disk, alloc, folder)?;
+    for name in names.as_slice() {
+        let path = joined(alloc, folder, name.as_slice())?;
+        clear_name(disk, path, name.as_slice(), has_folders, folders)?;
+    }
+    Ok(())
 }
 
 /// Removes the files beside in a folder and in the folders of its keys. What can't be read or removed stays; only memory fails.
-pub fn remove_leftovers<F: Files>(files: &F, alloc: Global, folder: &str) -> io::Result<()> {
-    let mut search = Search {
-        folders: Vec::new(alloc),
-    };
-    search.folders.push(String::from_str(alloc, folder)?)?;
+pub fn clear<D: Disk>(disk: &mut D, alloc: Global) -> Result<(), AllocError>
+    ensures { Where (D.told disk.old) (D.told disk.new) (KeepsObjects (D.may_leave disk.old) (D.may_leave disk.new)) }
+{
+    let mut folders = Vec::new(alloc);
+    folders.push(Bytes::vacant(alloc))?;
     for _ in 0..u64::MAX {
-        let Some(folder) = search.folders.pop() else {
+        let Some(folder) = folders.pop() else {
             break;
         };
-        match search.read(alloc, files, folder.as_str()) {
-            Err(fault) if fault.kind() == ErrorKind::OutOfMemory => return Err(fault),
-            _ => {}
-        }
+        clear_folder(disk, alloc, folder.as_slice(), &mut folders)?;
     }
     Ok(())
 }

@@ -1,8 +1,9 @@
 //! The outside as it is: folders of objects and of logs, the system's clock, and the standard streams.
 //!
-//! Each counts its failures, keeps why it failed first, and tells nothing of what it holds.
+//! Each counts its failures, and keeps why it failed first.
 #![tactic(auto)]
 
+mod disk;
 mod faults;
 mod file_log;
 mod folder_names;
@@ -10,17 +11,27 @@ mod folder_path;
 mod folder_read;
 mod folder_store;
 mod folder_walk;
+mod host_disk;
 mod leftovers;
 mod log_lines;
+mod memory_disk;
+mod object_calls;
 mod object_making;
+mod object_names;
 mod object_reading;
+mod shelf;
+mod shelf_files;
 mod streams;
 mod system_clock;
+mod waiting;
 mod writer_lock;
 
-pub use faults::Reason;
+pub use disk::{Disk, DiskError, MakeError, Stamp, Standing};
+pub use faults::{Reason, Trouble};
 pub use file_log::FileLog;
 pub use folder_store::FolderStore;
+pub use host_disk::HostDisk;
+pub use memory_disk::MemoryDisk;
 pub use streams::{StdSink, StdSource};
 pub use system_clock::SystemClock;
 pub use writer_lock::WriterLock;

@@ -1,182 +1,135 @@
-//! Making and removing the files of objects.
+//! The sequence that makes an object.
 
-use crate::faults::{Trouble, tried};
-use crate::folder_path::{FolderPath, Standing, front, parent_and_name, standing_at};
-use crate::leftovers::HALF;
+ghost use Rattle.std.specs.Prelude.{◌≡◌, ◌≤◌, List, ℕ, false, true, IfOk, IfErr};
+ghost use Rattle.real_edge.specs.Disk.{Where, Makes, Leaves};
+ghost use Rattle.real_edge.specs.Names.{is_object};
+ghost use Rattle.real_edge.specs.Objects.{Places, Made, KeepsObjects, both_of};
+
+use crate::disk::{Disk, DiskError, MakeError, Standing};
+use crate::faults::Trouble;
+use crate::object_names::{folder_len, name_beside};
 use std::alloc::{AllocError, Global};
-use std::fs::{self, File, Files, OpenFile, OpenOptions};
-use std::io::{self, ErrorKind, Write};
 
 /// How many names are tried for a file beside.
 const TRIES: u32 = 1_000;
 
-/// A file beside that is new and empty.
+/// Who writes a folder: the number in the names of its files beside, and how many of those it named.
 #[derive(Drop)]
-struct Beside<H: Drop> {
-    path: String,
-    file: H,
+pub struct Writer {
+    number: u64,
+    count: u64,
+    /// What killed writers left is gone.
+    pub has_cleared: bool,
 }
 
-/// What makes the files of objects.
-#[derive(Drop)]
-pub struct Maker {
-    writer: u64,
-    /// The number of the next file beside.
-    next: u64,
-    /// The folders whose names are on the disk.
-    synced: Vec<String>,
+impl Writer {
+    pub fn of(number: u64) -> Writer {
+        Writer {
+            number,
+            count: 0,
+            has_cleared: false,
+        }
+    }
+
+    // A name beside in a folder. No other has it of this writer.
+    fn next_name(&mut self, alloc: Global, folder: &[u8]) -> Result<Vec<u8>, AllocError>
+        ensures { IfOk result (λ beside. is_object beside.items ≡ false) }
+    {
+        let count = self.count;
+        self.count = count.wrapping_add(1);
+        name_beside(alloc, folder, self.number, count)
+    }
 }
 
-// What was made and removed in a folder is on the disk.
-fn sync_folder<F: Files>(files: &F, path: &str) -> Result<(), Trouble> {
-    let synced = match File::open(files, path) {
-        Ok(folder) => folder.sync_all(),
-        Err(fault) => Err(fault),
-    };
-    tried("syncing the folder of", synced)
-}
-
-// The file has these bytes and no others, on the disk.
-fn write_whole<H: Write + OpenFile + Drop>(mut file: H, content: &[u8]) -> io::Result<()> {
-    file.write_all(content)?;
-    file.sync_all()
-}
-
-// The file beside with these bytes, and then a link to it under the path. Whether nothing stood there.
-fn link_new<F: Files>(
-    files: &F,
-    beside: &str,
-    file: F::File,
-    path: &str,
+// A new file of these bytes beside, under a name that nothing had.
+fn make_beside<D: Disk>(
+    disk: &mut D,
+    alloc: Global,
+    writer: &mut Writer,
+    folder: &[u8],
     content: &[u8],
-) -> Result<bool, Trouble> {
-    tried("writing the file beside", write_whole(file, content))?;
-    match fs::hard_link(files, beside, path) {
-        Ok(()) => Ok(true),
-        Err(fault) if fault.kind() == ErrorKind::AlreadyExists => Ok(false),
-        Err(fault) => tried("linking", Err(fault)),
+) -> Result<Vec<u8>, DiskError>
+    ensures name { IfOk result (λ beside. is_object beside.items ≡ false) }
+    ensures made { IfOk result (λ beside. Where (D.told disk.old) (D.told disk.new) (Made beside.items content.now (D.may_leave disk.old) (D.may_leave disk.new))) }
+    ensures failed { IfErr result (λ _. Where (D.told disk.old) (D.told disk.new) (KeepsObjects (D.may_leave disk.old) (D.may_leave disk.new))) }
+    ensures ways { (q : List ℕ) → D.has_way disk.old q → D.has_way disk.new q }
+{
+    for _ in 0..TRIES {
+        let beside = writer.next_name(alloc, folder)?;
+        match disk.create_new(alloc, beside.as_slice(), content) {
+            Ok(()) => return Ok(beside),
+            Err(MakeError::Exists) => {}
+            Err(MakeError::Memory(refused)) => return Err(DiskError::Memory(refused)),
+            Err(MakeError::Failed(trouble)) => return Err(DiskError::Failed(trouble)),
+        }
+    }
+    let why = Trouble::of("making the file beside", "its names are taken");
+    Err(DiskError::Failed(why))
+}
+
+// What comes of a link, and of the removal of the name beside, which may be a second name of the object where it stays.
+fn both(linked: Result<(), MakeError>, removed: Result<(), Trouble>) -> Result<(), MakeError>
+    ensures { result ≡ both_of linked removed }
+{
+    match (linked, removed) {
+        (Ok(()), Ok(())) => Ok(()),
+        (Err(MakeError::Exists), Ok(())) => Err(MakeError::Exists),
+        (Ok(()) | Err(MakeError::Exists), Err(trouble)) => Err(MakeError::Failed(trouble)),
+        (Err(fault), _) => Err(fault),
     }
 }
 
-impl Maker {
-    pub fn of(alloc: Global, writer: u64) -> Maker {
-        Maker {
-            writer,
-            next: 0,
-            synced: Vec::new(alloc),
-        }
-    }
-
-    // A folder within a folder that stands, its name on the disk. It was made, or this is the first object in it, unless it is
-    // known to be synced.
-    fn make_folder<F: Files>(
-        &mut self,
-        files: &F,
-        alloc: Global,
-        folder: &str,
-    ) -> Result<(), Trouble> {
-        let is_new = match tried("looking at the folders of", standing_at(files, folder))? {
-            Standing::Folder => false,
-            Standing::Nothing => {
-                tried("making the folders of", fs::create_dir(files, folder))?;
-                true
-            }
-            _ => return Err(Trouble::of("making the folders of", "no folder stands there")),
-        };
-        let is_synced = self.synced.iter().any(|one| one.as_str() == folder);
-        if is_synced && !is_new {
-            return Ok(());
-        }
-        let (parent, _) = parent_and_name(folder);
-        sync_folder(files, parent)?;
-        if !is_synced {
-            self.synced.push(String::from_str(alloc, folder)?)?;
-        }
-        Ok(())
-    }
-
-    // The folders on the way from the store's folder to a path.
-    fn make_way<F: Files>(
-        &mut self,
-        files: &F,
-        alloc: Global,
-        place: &FolderPath,
-    ) -> Result<(), Trouble> {
-        let path = place.path();
-        let bytes = path.as_bytes();
-        for at in place.folder().len().saturating_add(1)..bytes.len() {
-            if bytes[at] == b'/' {
-                self.make_folder(files, alloc, front(path, at))?;
-            }
-        }
-        Ok(())
-    }
-
-    // A new file in a folder, under a name that nothing has.
-    fn open_beside<F: Files>(
-        &mut self,
-        files: &F,
-        alloc: Global,
-        folder: &str,
-    ) -> Result<Beside<F::File>, Trouble> {
-        let writer = self.writer;
-        for _ in 0..TRIES {
-            let number = self.next;
-            self.next = number.wrapping_add(1);
-            let path = format!(in alloc; "{folder}/.{writer}-{number}{HALF}")?;
-            match OpenOptions::new()
-                .write(true)
-                .create_new(true)
-                .open(files, path.as_str())
-            {
-                Ok(file) => return Ok(Beside { path, file }),
-                Err(fault) if fault.kind() == ErrorKind::AlreadyExists => {}
-                Err(fault) => return tried("making the file beside", Err(fault)),
-            }
-        }
-        Err(Trouble::of("making the file beside", "its names are taken"))
-    }
-
-    /// Makes an object of these bytes at the place's path. Whether none stood there.
-    pub fn make<F: Files>(
-        &mut self,
-        files: &F,
-        alloc: Global,
-        place: &FolderPath,
-        content: &[u8],
-    ) -> Result<bool, Trouble> {
-        self.make_way(files, alloc, place)?;
-        let path = place.path();
-        match tried("looking at", standing_at(files, path))? {
-            Standing::Nothing => {}
-            Standing::PlainFile => return Ok(false),
-            _ => return Err(Trouble::of("making", "what stands there is no plain file")),
-        }
-        let (folder, _) = parent_and_name(path);
-        let Beside { path: beside, file } = self.open_beside(files, alloc, folder)?;
-        let linked = link_new(files, beside.as_str(), file, path, content);
-        // A name that stays may be a second name of the object.
-        let removed = fs::remove_file(files, beside.as_str());
-        let is_new = linked?;
-        tried("removing the file beside", removed)?;
-        if is_new {
-            sync_folder(files, folder)?;
-        }
-        Ok(is_new)
+// The file beside, a link to it under the object's name, the name beside away, and the folder on the disk.
+fn place_new<D: Disk>(
+    disk: &mut D,
+    alloc: Global,
+    writer: &mut Writer,
+    name: &[u8],
+    content: &[u8],
+) -> Result<(), MakeError>
+    requires object { is_object name.now ≡ true }
+    requires way { D.has_way disk.old name.now }
+    ensures { Where (D.told disk.old) (D.told disk.new) (Places name.now content.now result (D.may_leave disk.old) (D.may_leave disk.new)) }
+{
+    let beside = match make_beside(disk, alloc, writer, &name[..folder_len(name)], content) {
+        Ok(beside) => beside,
+        Err(DiskError::Memory(refused)) => return Err(MakeError::Memory(refused)),
+        Err(DiskError::Failed(trouble)) => return Err(MakeError::Failed(trouble)),
+    };
+    let linked = disk.link(alloc, beside.as_slice(), name);
+    let removed = disk.remove(beside.as_slice());
+    match both(linked, removed) {
+        Ok(()) => match disk.sync(name) {
+            Ok(()) => Ok(()),
+            Err(trouble) => Err(MakeError::Failed(trouble)),
+        },
+        Err(fault) => Err(fault),
     }
 }
 
-/// The plain file at the place's path is gone, on the disk too. What else stands there stays.
-pub fn remove_object<F: Files>(files: &F, place: &mut FolderPath) -> Result<(), Trouble> {
-    if let Standing::PlainFile = place.standing(files)? {
-        match fs::remove_file(files, place.path()) {
-            Ok(()) => {
-                let (folder, _) = parent_and_name(place.path());
-                return sync_folder(files, folder);
-            }
-            Err(fault) if fault.kind() == ErrorKind::NotFound => {}
-            Err(fault) => return tried("removing", Err(fault)),
-        }
+/// Makes an object of these bytes, where nothing stands under its name.
+pub fn place<D: Disk>(
+    disk: &mut D,
+    alloc: Global,
+    writer: &mut Writer,
+    name: &[u8],
+    content: &[u8],
+) -> Result<(), MakeError>
+    requires object { is_object name.now ≡ true }
+    ensures { Where (D.told disk.old) (D.told disk.new) (Places name.now content.now result (D.may_leave disk.old) (D.may_leave disk.new)) }
+{
+    match disk.make_way(alloc, name) {
+        Ok(()) => {}
+        Err(DiskError::Memory(refused)) => return Err(MakeError::Memory(refused)),
+        Err(DiskError::Failed(trouble)) => return Err(MakeError::Failed(trouble)),
     }
-    place.require(files)
+    match disk.look(name) {
+        Ok(Standing::Nothing) => place_new(disk, alloc, writer, name, content),
+        Ok(Standing::PlainFile) => Err(MakeError::Exists),
+        Ok(_) => {
+            let why = Trouble::of("making", "what stands there is no plain file");
+            Err(MakeError::Failed(why))
+        }
+        Err(trouble) => Err(MakeError::Failed(trouble)),
+    }
 }

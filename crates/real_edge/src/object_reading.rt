@@ -2,8 +2,9 @@
 
 ghost use Rattle.std.specs.Prelude.{◌≤◌, IfOk, IfSome, length};
 
+use crate::disk::Standing;
 use crate::faults::{Trouble, tried};
-use crate::folder_path::{FolderPath, Standing};
+use crate::folder_path::FolderPath;
 use byte_fields::Bytes;
 use object_store::Piece;
 use std::alloc::Global;

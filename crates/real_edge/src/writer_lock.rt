@@ -1,7 +1,8 @@
 //! The lock of a folder's one writer.
 
+use crate::disk::Standing;
 use crate::faults::{Trouble, tried};
-use crate::folder_path::{Standing, standing_at};
+use crate::folder_path::standing_at;
 use std::fs::{File, Files, OpenFile, OpenOptions, TryLockError};
 use std::io::{self, ErrorKind};
 use std::time::Clock;

@@ -42,3 +42,9 @@ pub mod TaskReads
 pub mod DeleteLaws
 pub mod Requesting
 pub mod Replying
+pub mod Entered
+pub mod CallFaults
+pub mod FirstReplies
+pub mod NextReplies
+pub mod Stretches
+pub mod Replied

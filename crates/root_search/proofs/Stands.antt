@@ -221,13 +221,13 @@ config_after core after log config s i g = config_is after log config s (configu
 -- ---- before a call
 
 -- what comes behind a history
-history_more : (entries more : List Entry) → history (entries ++ more) ≡ fold ◌▸◌ (history entries) more
+pub history_more : (entries more : List Entry) → history (entries ++ more) ≡ fold ◌▸◌ (history entries) more
 history_more entries more = fold-append ◌▸◌ Start entries more
 
-legal_before : (entries all more : List Entry) → all ≡ entries ++ more → Legal reads (history all) → Legal reads (history entries)
+pub legal_before : (entries all more : List Entry) → all ≡ entries ++ more → Legal reads (history all) → Legal reads (history entries)
 legal_before entries all more grown legal = legal_front (history entries) more (subst (Legal reads) (ap history grown ∙ history_more entries more) legal)
 
-configured_more : (entries all more : List Entry) (config : IndexConfig) → all ≡ entries ++ more → Legal reads (history all) → configuration entries ≡ Some config → configuration all ≡ Some config
+pub configured_more : (entries all more : List Entry) (config : IndexConfig) → all ≡ entries ++ more → Legal reads (history all) → configuration entries ≡ Some config → configuration all ≡ Some config
 configured_more entries all more config grown legal is =
     let front : take (length entries) all ≡ entries = ap (take (length entries)) grown ∙ (take-append-le (length entries) entries more (omega arith) ∙ take_all (length entries) entries (omega arith)) in
     configured-take (length entries) all legal config (ap configuration front ∙ is)

@@ -68,7 +68,7 @@ refusal_core : (revision : ℕ) (refusal : Refusal) (trouble : Trouble) (client 
 refusal_core revision refusal (faulted fault) client core = refl
 refusal_core revision refusal no_memory client core = refl
 
-plan_core : (answer : Result ⊤ Trouble) (asked : Result Search Unanswered) (client : Client) (core : Core) → (plan_by answer asked client core).core ≡ core
+pub plan_core : (answer : Result ⊤ Trouble) (asked : Result Search Unanswered) (client : Client) (core : Core) → (plan_by answer asked client core).core ≡ core
 plan_core (Ok done) (Ok search) client core = refl
 plan_core (Ok done) (Err (reasons.Refused refusal)) client core = refl
 plan_core (Ok done) (Err (reasons.Memory e)) client core = refl
@@ -98,7 +98,7 @@ fetch_core : (answer : Result ⊤ Trouble) (plan : Plan) (number : ℕ) (more : 
 fetch_core (Ok done) plan number more client core = refl
 fetch_core (Err trouble) plan number more client core = trouble_core plan.revision trouble client core
 
-short_core : (short : Bool) (client : Client) (step : Searched) → (or_short short client step).core ≡ step.core
+pub short_core : (short : Bool) (client : Client) (step : Searched) → (or_short short client step).core ≡ step.core
 short_core true client step = refl
 short_core false client step = refl
 

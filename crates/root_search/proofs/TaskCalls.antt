@@ -30,13 +30,13 @@ left_is r s core after h = ap (λ (x : Gives Unmade ⊤). x.core) h
 
 -- ---- what is taken in
 
-abbrev Grows : Core → Core → Type 0
+abbrev pub Grows : Core → Core → Type 0
 Grows core after = (more : List Entry) × (after.history ≡ core.history ++ more)
 
-same_grows : (core after : Core) → after.history ≡ core.history → Grows core after
+pub same_grows : (core after : Core) → after.history ≡ core.history → Grows core after
 same_grows core after e = ([], e ∙ sym (append-nil core.history))
 
-grows_on : (a b c : Core) → Grows a b → Grows b c → Grows a c
+pub grows_on : (a b c : Core) → Grows a b → Grows b c → Grows a c
 grows_on a b c g h = (g.0 ++ h.0, h.1 ∙ (ap (λ (l : List Entry). l ++ h.0) g.1 ∙ append_assoc a.history g.0 h.0))
 
 entry_same : (standing : Option Entry) (b : Bool) (entry : Entry) (core : Core) → (entry_lands standing b entry core).history ≡ core.history
@@ -58,7 +58,7 @@ landed_same : (places : List ℕ) (core : Core) → (all_landed places core).his
 landed_same [] core = refl
 landed_same (place ∷ places) core = landed_same places (land_at (slice_get core.late place) place core) ∙ land_same (slice_get core.late place) place core
 
-begun_same : (call : Call) (core : Core) → (begun call core).history ≡ core.history
+pub begun_same : (call : Call) (core : Core) → (begun call core).history ≡ core.history
 begun_same call core = landed_same call.lands (record core { store_faults = risen core.store_faults call.rises })
 
 tried_same : (effect : Effect) (standing : Option Entry) (entry : Entry) (core : Core) → (tried effect standing entry core).history ≡ core.history
@@ -76,7 +76,7 @@ made_same true effect entry core = tried_same effect core.standing entry core
 made_same false effect entry core = behind_same core.standing entry core
 
 -- no entry is taken in by a create alone
-created_same : (call : Call) (entry : Entry) (core : Core) → (create_at_end call entry core).core.history ≡ core.history
+pub created_same : (call : Call) (entry : Entry) (core : Core) → (create_at_end call entry core).core.history ≡ core.history
 created_same call entry core = made_same (may_fail call core.store_faults) call.effect entry (begun call core) ∙ begun_same call core
 
 unless_grows : (short unsure : Bool) (entry : Entry) (core : Core) → Grows core (taken_unless short unsure entry core).core
@@ -87,7 +87,7 @@ got_grows : (fails : Bool) (call : Call) (before : ℕ) (entry : Entry) (core : 
 got_grows true call before entry core = same_grows core (record core { unsure = true }) refl
 got_grows false call before entry core = unless_grows call.short (core.unsure || is_at_once call.effect) entry core
 
-get_grows : (call : Call) (entry : Entry) (before : ℕ) (core : Core) → Grows core (get_at_end call entry before core).core
+pub get_grows : (call : Call) (entry : Entry) (before : ℕ) (core : Core) → Grows core (get_at_end call entry before core).core
 get_grows call entry before core = grows_on core (begun call core) (get_at_end call entry before core).core (same_grows core (begun call core) (begun_same call core)) (got_grows (may_fail call core.store_faults) call before entry (begun call core))
 
 fence_grows : (get : Call) (before : ℕ) (fence : Entry) (answer : Made) (core : Core) → Grows core (settle_made get before fence answer core).core
@@ -99,11 +99,11 @@ short_grows : {E A : Type 0} (short : Bool) (e : E) (call : Call) (core : Core) 
 short_grows true e call core otherwise g = same_grows core (begun call core) (begun_same call core)
 short_grows false e call core otherwise g = g
 
-room_grows : (short : Bool) (core : Core) → Grows core (unless_short short core).core
+pub room_grows : (short : Bool) (core : Core) → Grows core (unless_short short core).core
 room_grows true core = same_grows core core refl
 room_grows false core = same_grows core core refl
 
-settled_grows : (unsure : Bool) (first second : Call) (core : Core) → Grows core (settle_with unsure first second core).core
+pub settled_grows : (unsure : Bool) (first second : Call) (core : Core) → Grows core (settle_with unsure first second core).core
 settled_grows false first second core = room_grows first.short core
 settled_grows true first second core =
     let making = create_at_end first (fence_of core) core in

@@ -23,3 +23,4 @@ pub mod Footers
 pub mod Drawing
 pub mod Searching
 pub mod AnswerAll
+pub mod Replied

@@ -38,6 +38,7 @@ pub fn answer<Rt: Threads + Sync, G: Gate, H: LeafHold>(
     hold: &H,
 ) -> Result<Reply, AllocError>
     requires { searcher.old.request ≡ requests.Vacant }
+    ensures later { G.since gate.old gate.new }
     ensures vacant { searcher.new.request ≡ requests.Vacant }
     ensures client { searcher.new.client ≡ searcher.old.client }
     ensures own { IfOk result (λ reply. (reply.client ≡ searcher.old.client) × (searcher.new.front ≡ reply.revision)) }
@@ -83,6 +84,7 @@ pub fn answer_all<Rt: Threads + Sync, G: Gate, H: LeafHold>(
 ) -> Result<(), AllocError>
     requires vacant { searcher.old.request ≡ requests.Vacant }
     requires none { replies.old.items ≡ [] }
+    ensures later { G.since gate.old gate.new }
     ensures vacant { searcher.new.request ≡ requests.Vacant }
     ensures client { searcher.new.client ≡ searcher.old.client }
     ensures ran { (asker : Asker) (core : Core) (log : Log) → IsLog log → G.Stands gate.old core log → SearcherStands searcher.old asker core log →

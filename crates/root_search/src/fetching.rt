@@ -69,6 +69,7 @@ fn fetch_piece<G: Gate>(
     len: u64,
 ) -> Result<KeptPiece, FetchError>
     requires { place < length plan.now.rows }
+    ensures later { G.since gate.old gate.new }
     ensures step { (config : configs.IndexConfig) (bytes : List ℕ) (core : Core) (log : Log) → G.Stands gate.old core log → IsConfigured config core → (file : IsFileAt core (grace_of config plan.now).until plan.now place bytes) →
         FetchesAs (grace_of config plan.now) file.row.number G.Stands G.Between G.Adds G.bytes_fetched (IsPieceFetched bytes start len) result core log gate.old gate.new }
     ensures reads { ReadsAs G.Stands G.Between G.Owns G.Adds G.bytes_fetched G.told G.Answers plan.now place (IsPieceRead start len) NeverRefused result gate.old gate.new }
@@ -144,6 +145,7 @@ fn read_footer<G: Gate>(
     size: u64,
 ) -> Result<Footer, FetchError>
     requires { place < length plan.now.rows }
+    ensures later { G.since gate.old gate.new }
     ensures step { (config : configs.IndexConfig) (s : Schema) (documents : List Placed) (p : Parts) (core : Core) (log : Log) → G.Stands gate.old core log → IsConfigured config core →
         (file : IsFileAt core (grace_of config plan.now).until plan.now place (file_bytes p)) → IsSplitOf s documents p → size ≡ length (file_bytes p) →
         FetchesAs (grace_of config plan.now) file.row.number G.Stands G.Between G.Adds G.bytes_fetched (IsFooterFetched None p) result core log gate.old gate.new }
@@ -167,6 +169,7 @@ fn footer_of<G: Gate>(
     known: Option<Footer>,
 ) -> Result<Footer, FetchError>
     requires { place < length plan.now.rows }
+    ensures later { G.since gate.old gate.new }
     ensures step { (config : configs.IndexConfig) (s : Schema) (documents : List Placed) (p : Parts) (core : Core) (log : Log) → G.Stands gate.old core log → IsConfigured config core →
         (file : IsFileAt core (grace_of config plan.now).until plan.now place (file_bytes p)) → IsSplitOf s documents p → IsKnown (file_bytes p) known →
         FetchesAs (grace_of config plan.now) file.row.number G.Stands G.Between G.Adds G.bytes_fetched (IsFooterFetched known p) result core log gate.old gate.new }
@@ -192,6 +195,7 @@ fn fetch_ranges<G: Gate>(
     pieces: &mut KeptPieces,
 ) -> Result<(), FetchError>
     requires { place < length plan.now.rows }
+    ensures later { G.since gate.old gate.new }
     ensures step { (config : configs.IndexConfig) (bytes : List ℕ) (core : Core) (log : Log) → G.Stands gate.old core log → IsConfigured config core → (file : IsFileAt core (grace_of config plan.now).until plan.now place bytes) →
         FetchesAs (grace_of config plan.now) file.row.number G.Stands G.Between G.Adds G.bytes_fetched (λ done. AreRangesFetched bytes ranges.now pieces.old pieces.new) result core log gate.old gate.new }
     ensures reads { ReadsAs G.Stands G.Between G.Owns G.Adds G.bytes_fetched G.told G.Answers plan.now place (λ done. AreKeptBehind pieces.old pieces.new) NeverRefused result gate.old gate.new }
@@ -249,6 +253,7 @@ fn fetch_blocks<G: Gate>(
     footer: &Footer,
 ) -> Result<KeptPieces, FetchError>
     requires { place < length plan.now.rows }
+    ensures later { G.since gate.old gate.new }
     ensures step { (config : configs.IndexConfig) (documents : List Placed) (p : Parts) (core : Core) (log : Log) → G.Stands gate.old core log → IsConfigured config core →
         (file : IsFileAt core (grace_of config plan.now).until plan.now place (file_bytes p)) → IsSplitOf config.schema documents p → IsFooterOf p footer.now →
         FetchesAs (grace_of config plan.now) file.row.number G.Stands G.Between G.Adds G.bytes_fetched (AreBlocksFetched config.schema request.now documents p footer.now) result core log gate.old gate.new }
@@ -271,6 +276,7 @@ fn fetch_lists<G: Gate>(
     blocks: KeptPieces,
 ) -> Result<KeptPieces, FetchError>
     requires { place < length plan.now.rows }
+    ensures later { G.since gate.old gate.new }
     ensures step { (config : configs.IndexConfig) (documents : List Placed) (p : Parts) (core : Core) (log : Log) → G.Stands gate.old core log → IsConfigured config core →
         (file : IsFileAt core (grace_of config plan.now).until plan.now place (file_bytes p)) → IsSplitOf config.schema documents p → IsFooterOf p footer.now → IsAsked config.schema request.now →
         HoldsBlocks config.schema request.now documents p footer.now blocks →
@@ -368,6 +374,7 @@ fn fetch_shown<G: Gate>(
     listed: KeptPieces,
 ) -> Result<KeptPieces, FetchError>
     requires { place < length plan.now.rows }
+    ensures later { G.since gate.old gate.new }
     ensures step { (config : configs.IndexConfig) (documents : List Placed) (p : Parts) (core : Core) (log : Log) → G.Stands gate.old core log → IsConfigured config core →
         (file : IsFileAt core (grace_of config plan.now).until plan.now place (file_bytes p)) → IsSplitOf config.schema documents p → IsFooterOf p footer.now → IsAsked config.schema request.now →
         HoldsListed config.schema request.now documents p footer.now listed →
@@ -404,6 +411,7 @@ fn fetch_needed<G: Gate>(
     known: Option<Footer>,
 ) -> Result<FetchedSplit, FetchError>
     requires { place < length plan.now.rows }
+    ensures later { G.since gate.old gate.new }
     ensures step { (config : configs.IndexConfig) (documents : List Placed) (p : Parts) (core : Core) (log : Log) → G.Stands gate.old core log → IsConfigured config core →
         (file : IsFileAt core (grace_of config plan.now).until plan.now place (file_bytes p)) → IsSplitOf config.schema documents p → IsAsked config.schema request.now → IsKnown (file_bytes p) known →
         FetchesAs (grace_of config plan.now) file.row.number G.Stands G.Between G.Adds G.bytes_fetched (IsPartFetched config.schema request.now known documents p (needed_calls known)) result core log gate.old gate.new }
@@ -438,6 +446,7 @@ fn look<G: Gate>(
     part: FetchedSplit,
 ) -> Result<FetchedSplit, FetchError>
     requires { place < length plan.now.rows }
+    ensures later { G.since gate.old gate.new }
     ensures step { (config : configs.IndexConfig) (bytes : List ℕ) (core : Core) (log : Log) → G.Stands gate.old core log → IsConfigured config core → (file : IsFileAt core (grace_of config plan.now).until plan.now place bytes) →
         FetchesAs (grace_of config plan.now) file.row.number G.Stands G.Between G.Adds G.bytes_fetched (IsLooked part) result core log gate.old gate.new }
     ensures reads { ReadsAs G.Stands G.Between G.Owns G.Adds G.bytes_fetched G.told G.Answers plan.now place (IsPartLooked part) NeverRefused result gate.old gate.new }
@@ -462,6 +471,7 @@ pub(crate) fn fetch_part<G: Gate>(
     known: Option<Footer>,
 ) -> Result<FetchedSplit, FetchError>
     requires { place < length plan.now.rows }
+    ensures later { G.since gate.old gate.new }
     ensures step { (config : configs.IndexConfig) (documents : List Placed) (p : Parts) (core : Core) (log : Log) → G.Stands gate.old core log → IsConfigured config core →
         (file : IsFileAt core (grace_of config plan.now).until plan.now place (file_bytes p)) → IsSplitOf config.schema documents p → IsAsked config.schema request.now → IsKnown (file_bytes p) known →
         FetchesAs (grace_of config plan.now) file.row.number G.Stands G.Between G.Adds G.bytes_fetched (IsPartFetched config.schema request.now known documents p (part_calls known)) result core log gate.old gate.new }

@@ -263,6 +263,7 @@ impl Searcher {
         gate: &mut G,
         refusal: Refusal,
     ) -> Result<SearchStep, AllocError>
+        ensures later { G.since gate.old gate.new }
         ensures step { (text : List ℕ) (config : configs.IndexConfig) (client : steps.Client) (core : Core) (log : Log) →
             IsConfigured config core → asked_of config text ≡ Err (reasons.Refused refusal) → client.request ≡ opened text →
             G.Stands gate.old core log → IsAtWork self.old client core →
@@ -282,6 +283,7 @@ impl Searcher {
         gate: &mut G,
         read: ReadSearch,
     ) -> Result<SearchStep, AllocError>
+        ensures later { G.since gate.old gate.new }
         ensures step { (text : List ℕ) (search : Search) (config : configs.IndexConfig) (client : steps.Client) (core : Core) (log : Log) →
             IsConfigured config core → asked_of config text ≡ Ok (IsSearch search) → IsRead config.schema search read → client.request ≡ opened text →
             G.Stands gate.old core log → IsAtWork self.old client core →
@@ -318,6 +320,7 @@ impl Searcher {
         ask: &DeleteAsk,
     ) -> Result<SearchStep, AllocError>
         requires { CanAddTask ask.now }
+        ensures later { G.since gate.old gate.new }
         ensures step { (text : List ℕ) (deletion : Deletion) (config : configs.IndexConfig) (client : steps.Client) (core : Core) (log : Log) →
             IsConfigured config core → asked_of config text ≡ Ok (IsDelete deletion) → ask.now ≡ ask_of deletion → client.request ≡ opened text →
             G.Stands gate.old core log → IsAtWork self.old client core →
@@ -341,6 +344,7 @@ impl Searcher {
         gate: &mut G,
         text: &Text,
     ) -> Result<SearchStep, AllocError>
+        ensures later { G.since gate.old gate.new }
         ensures step { (client : steps.Client) (core : Core) (log : Log) → client.request ≡ opened text.now → G.Stands gate.old core log →
             IsAtWork self.old client core → SearchesAs G.Stands G.Between G.Adds gate.old result self.new gate.new client core log }
         ensures plans { let config = G.configured gate.old in
@@ -362,6 +366,7 @@ impl Searcher {
         planned: Planned,
     ) -> Result<SearchStep, AllocError>
         requires { planned.next < length planned.plan.rows }
+        ensures later { G.since gate.old gate.new }
         ensures step { (search : steps.Plan) (client : steps.Client) (core : Core) (log : Log) → IsLog log → client.request ≡ steps.planned search →
             IsPlanned planned search core log → AreKnown self.old.footers search.revision core log → G.Stands gate.old core log → IsAtWork self.old client core →
             SearchesAs G.Stands G.Between G.Adds gate.old result self.new gate.new client core log }
@@ -398,6 +403,7 @@ impl Searcher {
         gate: &mut G,
         planned: Planned,
     ) -> Result<SearchStep, AllocError>
+        ensures later { G.since gate.old gate.new }
         ensures step { (search : steps.Plan) (client : steps.Client) (core : Core) (log : Log) → IsLog log → client.request ≡ steps.planned search →
             IsPlanned planned search core log → AreKnown self.old.footers search.revision core log → G.Stands gate.old core log → IsAtWork self.old client core →
             SearchesAs G.Stands G.Between G.Adds gate.old result self.new gate.new client core log }
@@ -434,6 +440,7 @@ impl Searcher {
         alloc: Global,
         gate: &mut G,
     ) -> Result<SearchStep, AllocError>
+        ensures later { G.since gate.old gate.new }
         ensures step { (client : steps.Client) (core : Core) (log : Log) → IsLog log → G.Stands gate.old core log →
             SearcherStands self.old client core log →
             SearchesAs G.Stands G.Between G.Adds gate.old result self.new gate.new client core log }

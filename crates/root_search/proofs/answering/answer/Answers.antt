@@ -82,6 +82,7 @@ loop-init g c =
           one_more t.Stands t.Adds (ClientStep t.Between log) core_there reply_of g.met.G.Gate.adds_more (Taken c.submit.new.self log c.args.text) (Fetches c.step.new.self log 0 c.in-Planned.count) 0
           (client_at (with_text c.args.text asker) core) log c.args.gate.now c.args.gate.now c.step.new.gate so_far (Ok (Planned c.in-Planned.revision c.in-Planned.count))
           (planned_step t.Stands t.Between t.Adds c.in-Planned.revision c.in-Planned.count so_far.last log c.step.new.self c.args.gate.now c.step.new.gate c.args.text so_far.left.1 same) refl,
+      c.step.ensures.later,
     )
 
 pub returns-in_err-count-clause-own : goal.returns-in_err-count-clause-own
@@ -189,6 +190,7 @@ loop-preserved g c =
           one_more t.Stands t.Adds (ClientStep t.Between log) core_there reply_of g.met.G.Gate.adds_more (Fetches c.loop.searcher log c.loop.counter c.in-Planned.count) (Fetches c.step-in-loop.new.self log (c.loop.counter + 1) c.in-Planned.count)
           (c.loop.counter + 1) (client_at (with_text c.args.text asker) core) log c.args.gate.now c.loop.gate c.step-in-loop.new.gate so_far (Ok (Fetched c.in-Fetched-2.number))
           (fetched_step t.Stands t.Between t.Adds c.in-Fetched-2.number so_far.last log c.loop.searcher c.step-in-loop.new.self c.loop.gate c.step-in-loop.new.gate c.loop.counter c.in-Planned.count so_far.left same) refl,
+      g.met.G.Gate.since_more c.args.gate.now c.loop.gate c.step-in-loop.new.gate c.loop.invariant.3 c.step-in-loop.ensures.later,
     )
 
 pub returns-in_err-reply-clause-vacant : goal.returns-in_err-reply-clause-vacant

@@ -15,3 +15,4 @@ invariant-loop g l =
     (l.searcher.client ≡ l.fn.searcher.client) × ((given : GivenPlan) × (l.searcher.request ≡ requests.Planned given))
     × ((client : Client) (core : Core) (log : Log) → IsLog log → g.G.Gate.Stands l.fn.gate core log → SearcherStands l.fn.searcher client core log →
     SoFar g.G.Gate.Stands g.G.Gate.Adds (ClientStep g.G.Gate.Between log) core_there reply_of (Fetches l.searcher log l.counter l.count) (l.counter + 1) (client_at (with_text l.fn.text client) core) log l.fn.gate l.gate)
+    × g.G.Gate.since l.fn.gate l.gate

@@ -21,6 +21,7 @@ loop-text-init g c =
       λ asker core log is s held.
           let P : List Reply → Type 0 = λ replies. SoAnswered t.Stands t.Between t.Adds c.args.searcher.now [] replies asker core log c.args.gate.now c.args.gate.now in
           subst P (sym c.requires.none) (none_answered t.Stands t.Between t.Adds g.met.G.Gate.adds_none c.args.searcher.now asker core log c.args.gate.now held s),
+      g.met.G.Gate.since_same c.args.gate.now,
     )
 
 pub returns-in_err-reply-clause-ran : goal.returns-in_err-reply-clause-ran
@@ -56,4 +57,5 @@ loop-text-preserved g c =
           let P : List Reply → Type 0 = λ replies. SoAnswered t.Stands t.Between t.Adds c.answer.new.searcher (c.loop-text.yielded ++ c.in-Some.text ∷ []) replies asker core log c.args.gate.now c.answer.new.gate in
           subst P (sym items) (one_answered t.Stands t.Between t.Adds g.met.G.Gate.adds_more c.loop-text.searcher c.answer.new.searcher c.loop-text.yielded c.loop-text.replies.items asker core log c.args.gate.now c.loop-text.gate
           c.answer.new.gate so_far c.in-Some.text c.answer.result ran c.in_ok-reply.reply c.in_ok-reply.was),
+      g.met.G.Gate.since_more c.args.gate.now c.loop-text.gate c.answer.new.gate c.loop-text.invariant.6 c.answer.ensures.later,
     )

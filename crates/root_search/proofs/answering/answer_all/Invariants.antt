@@ -17,3 +17,4 @@ invariant-loop-text g l =
     × (l.searcher.client ≡ l.fn.searcher.client)
     × ((client : Client) (core : Core) (log : Log) → IsLog log → g.G.Gate.Stands l.fn.gate core log → SearcherStands l.fn.searcher client core log →
     SoAnswered g.G.Gate.Stands g.G.Gate.Between g.G.Gate.Adds l.searcher l.yielded l.replies.items client core log l.fn.gate l.gate)
+    × g.G.Gate.since l.fn.gate l.gate

@@ -14,12 +14,14 @@ use Rattle.root_search.proofs.fetching.fetch_ranges.Goals as goal
 
 pub loop-range-init : goal.loop-range-init
 loop-range-init g c = record {
+  later = g.met.G.Gate.since_same c.args.gate.now;
   step = λ config bytes core log stands configured file. (none_made (grace_of config c.args.plan.now) file.row.number g.G.Gate.Stands g.G.Gate.Between g.G.Gate.Adds g.G.Gate.bytes_fetched core log _ (g.met.G.Gate.adds_none c.args.gate.now) stands, sym (append-nil c.args.pieces.now));
   reads = ([], none_called g.G.Gate.Stands g.G.Gate.Between g.G.Gate.Owns g.G.Gate.Adds g.G.Gate.bytes_fetched g.G.Gate.told g.G.Gate.Answers c.args.plan.now c.args.place c.args.gate.now, sym (append-nil c.args.pieces.now));
 }
 
 pub loop-range-preserved : goal.loop-range-preserved
 loop-range-preserved g c = record {
+  later = g.met.G.Gate.since_more c.args.gate.now c.loop-range.gate c.fetch_piece.new.gate c.loop-range.invariant.later c.fetch_piece.ensures.later;
   step = λ config bytes core log stands configured file.
       let i = c.loop-range.invariant.step config bytes core log stands configured file in
       let r = c.range-item.result in

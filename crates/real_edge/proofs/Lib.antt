@@ -1,0 +1,13 @@
+pub mod Maps
+pub mod Meetings
+pub mod Steps
+pub mod Wheres
+pub mod Fronts
+pub mod Walks
+pub mod Lasting
+pub mod Led
+pub mod Positions
+pub mod Entries
+pub mod Calls
+pub mod Ordered
+pub mod Parts

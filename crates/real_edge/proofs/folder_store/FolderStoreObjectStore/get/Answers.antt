@@ -1,0 +1,37 @@
+use Rattle.std.proofs.Common.{◌≡◌, ◌≤◌, length, Result, Option, sym, subst}
+use Rattle.std.specs.Prelude.{IfOk, IfSome}
+use Rattle.object_store.specs.declared.store.GetError.{GetError}
+use Rattle.object_store.specs.declared.store.Piece.{Piece}
+use Rattle.object_store.specs.Store.{AfterLanding, Gets}
+use Rattle.real_edge.specs.Objects.{state_in, KeepsObjects}
+use Rattle.real_edge.proofs.Led.{walks_in, walks_out}
+use Rattle.real_edge.proofs.Calls.{gets_answer, piece_bound, if_kept, walk_kept}
+use Rattle.real_edge.proofs.folder_store.FolderStoreObjectStore.get.Goals as goal
+
+pub invariant_of-self : goal.invariant_of-self
+invariant_of-self g c =
+    let told = g.D.Disk.told in
+    let left = g.D.Disk.may_leave in
+    let s = c.args.self.now in
+    let b = c.piece_of-found.new.disk in
+    record { walks = walks_out (told b) s.walk (walk_kept (told s.disk) (told b) s.walk {P = KeepsObjects (left s.disk) (left b)} (λ o n p q is. p.same q is) (walks_in (told s.disk) s.walk s.walks) c.piece_of-found.ensures.keeps) }
+
+pub returns-clause-step : goal.returns-clause-step
+returns-clause-step g c =
+    let told = g.D.Disk.told in
+    let left = g.D.Disk.may_leave in
+    let a = c.args.self.now.disk in
+    let b = c.piece_of-found.new.disk in
+    subst (λ (r : Result Piece GetError). AfterLanding (state_in (told a)) (state_in (told b)) (Gets c.args.key.now c.args.from c.args.len r)) (sym c.answer_get-answer.ensures.answer)
+    (gets_answer (told a) (told b) c.args.key.now c.args.from c.args.len c.piece_of-found.result (left a) (left b) c.piece_of-found.ensures.object c.piece_of-found.ensures.keeps c.piece_of-found.ensures.finds)
+
+pub returns-clause-bound : goal.returns-clause-bound
+returns-clause-bound g c = subst (λ (r : Result Piece GetError). IfOk r (λ piece. length piece.bytes ≤ c.args.len)) (sym c.answer_get-answer.ensures.answer) (piece_bound c.args.len c.piece_of-found.result c.piece_of-found.ensures.bound)
+
+pub returns-clause-disk : goal.returns-clause-disk
+returns-clause-disk g c =
+    let told = g.D.Disk.told in
+    let left = g.D.Disk.may_leave in
+    let a = c.args.self.now.disk in
+    let b = c.piece_of-found.new.disk in
+    if_kept (told a) (told b) (left a) (left b) c.piece_of-found.ensures.keeps

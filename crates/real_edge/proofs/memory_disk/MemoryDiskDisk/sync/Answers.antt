@@ -1,0 +1,21 @@
+use Rattle.std.proofs.Common.{Some}
+use Rattle.std.specs.Prelude.{⊤}
+use Rattle.real_edge.specs.MemoryDisk.{IsLeft}
+use Rattle.real_edge.proofs.Wheres.{leaves_all}
+use Rattle.real_edge.proofs.Lasting.{leaves_synced, synced_settled}
+use Rattle.real_edge.proofs.memory_disk.MemoryDiskDisk.sync.Goals as goal
+
+pub returns-then-self-clause-leaves : goal.returns-then-self-clause-leaves
+returns-then-self-clause-leaves c = leaves_all (Some c.args.self.now.files.objects) (IsLeft c.args.self.now.files.objects c.args.self.now.synced.objects) (λ q. ⊤)
+
+pub returns-then-is_err-clause-leaves : goal.returns-then-is_err-clause-leaves
+returns-then-is_err-clause-leaves c = leaves_all (Some c.args.self.now.files.objects) (IsLeft c.args.self.now.files.objects c.args.self.now.synced.objects) (λ q. ⊤)
+
+pub returns-in-Err-clause-leaves : goal.returns-in-Err-clause-leaves
+returns-in-Err-clause-leaves c = leaves_all (Some c.args.self.now.files.objects) (IsLeft c.args.self.now.files.objects c.args.self.now.synced.objects) (λ q. ⊤)
+
+pub returns-in-Ok-clause-leaves : goal.returns-in-Ok-clause-leaves
+returns-in-Ok-clause-leaves c = leaves_synced c.args.self.now.files.objects c.args.self.now.synced.objects c.in-Ok.copy.objects (λ q. ⊤) c.in-Ok.ensures
+
+pub returns-in-Ok-clause-settled : goal.returns-in-Ok-clause-settled
+returns-in-Ok-clause-settled c = synced_settled c.args.self.now.files.objects c.in-Ok.copy.objects c.args._name.now (λ q. ⊤) c.in-Ok.ensures

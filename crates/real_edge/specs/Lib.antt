@@ -1,0 +1,10 @@
+pub mod Answers
+pub mod Disk
+pub mod Entries
+pub mod Folders
+pub mod MemoryDisk
+pub mod Names
+pub mod Objects
+pub mod Shelved
+pub mod Waiting
+pub mod Walk
