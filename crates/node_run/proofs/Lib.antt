@@ -37,3 +37,12 @@ pub mod Counted
 pub mod Starting
 pub mod Printed
 pub mod Searches
+pub mod Keeping
+pub mod Unasked
+pub mod Appending
+pub mod Crowding
+pub mod AtRest
+pub mod RestSteps
+pub mod Resting
+pub mod RestAll
+pub mod Frozen

@@ -13,3 +13,5 @@ pub mod Restarting
 pub mod Telling
 pub mod Logs
 pub mod Printing
+pub mod Settling
+pub mod Resting

@@ -7,8 +7,10 @@ mod line;
 mod logs;
 mod out_line;
 mod pieces;
+mod settling;
 
 pub use drive::{Accepts, DriveNode, MAX_CLIENTS, Unstarted};
 pub use line::{Line, LineError, read_line};
 pub use logs::Logs;
 pub use out_line::OutLine;
+pub use settling::{Settled, settle};
