@@ -46,3 +46,4 @@ pub mod RestSteps
 pub mod Resting
 pub mod RestAll
 pub mod Frozen
+pub mod Wholly

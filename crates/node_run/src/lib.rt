@@ -13,4 +13,4 @@ pub use drive::{Accepts, DriveNode, MAX_CLIENTS, Unstarted};
 pub use line::{Line, LineError, read_line};
 pub use logs::Logs;
 pub use out_line::OutLine;
-pub use settling::{Settled, settle};
+pub use settling::{Settled, settle, settles_wholly};
