@@ -30,9 +30,9 @@ ghost use Rattle.node_run.specs.Seen.{seen};
 ghost use Rattle.node_run.specs.Standing.{NodeStands, IsFresh, fresh_node, accepts_of, accepts_client, accepts_indexer, DoesLine, DoesMost, LetGo, GivesLogs, GivesStore};
 ghost use Rattle.node_run.specs.Turns.{made_idle, quiet, stopped};
 
+use crate::OutLine;
 use crate::line::Line;
 use crate::logs::Logs;
-use crate::out_line::OutLine;
 use byte_fields::{Client, Text};
 use clock_time::{MOMENT_END, ScriptClock};
 use index_world::{Direct, World, WorldError};
