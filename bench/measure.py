@@ -8,7 +8,7 @@ log (a datetime, a level of four values, a body of 2 to 20 words of a skewed voc
 the package descriptions of the system. Each is indexed by the program over a folder and by SQLite over a file, both are
 asked the same questions, the answers are compared, and a table of times, ratios, peak memory and bytes on disk is printed in
 Markdown; where another build of the program is named, it indexes the same records too, over a folder of its own, and is asked
-the same. Only Python's standard library is used; its sqlite3 must have FTS5.
+the same. Only Python's standard library and clients/python are used; its sqlite3 must have FTS5.
 """
 import argparse
 import bisect
@@ -26,6 +26,9 @@ import subprocess
 import sys
 import tempfile
 import time
+
+sys.path.insert(0, os.path.join(os.path.dirname(os.path.abspath(__file__)), "../clients/python"))
+import poltyqen
 
 LEVELS = ["debug", "info", "warn", "error"]
 WORDS = 50_000
@@ -198,54 +201,31 @@ def questions(records):
 
 # ---- the program
 
-class Program:
+class Program(poltyqen.Drive):
     """The program at work on a folder, a schedule line at a time."""
 
     def __init__(self, path, store, logs):
-        self.work = subprocess.Popen([path, store, logs, "drive"], stdin=subprocess.PIPE, stdout=subprocess.PIPE, bufsize=0)
-        self.said = self.work.stdout
-        self.rest = b""
-
-    def lines(self, text, count):
-        """Writes so many lines at once, and reads what is said to each."""
-        self.work.stdin.write((text + "\n").encode() * count)
-        while self.rest.count(b"\n") < count:
-            piece = os.read(self.said.fileno(), 1 << 20)
-            if not piece:
-                raise SystemExit(f"the program ended: {self.rest.decode()}")
-            self.rest += piece
-        *said, self.rest = self.rest.split(b"\n", count)
-        return [it.decode() for it in said]
-
-    def line(self, text):
-        return self.lines(text, 1)[0]
+        super().__init__(path, store, logs, stderr=None)
 
     def ask(self, asked):
-        """A search is opened and planned, and then each of its splits is fetched and it is replied, in one write."""
-        self.line("client a " + json.dumps({"search": asked}))
-        said = self.line("client a")
-        if said.startswith("a planned "):
-            said = self.lines("client a", int(said.split()[3]) + 1)[-1]
-        found = json.loads(said)
+        """The reply to a search. One that is refused ends the measurement."""
+        found = super().ask(poltyqen.request_text({"search": asked}))
         if "error" in found:
-            raise SystemExit(f"refused: {said}")
+            raise SystemExit(f"refused: {found}")
         return found
 
     def end(self):
-        self.work.stdin.close()
-        _, status, used = os.wait4(self.work.pid, 0)
-        self.work.returncode = os.waitstatus_to_exitcode(status)
+        """Lets the program end, and returns what the system says that it used."""
+        self.process.stdin.close()
+        _, status, used = os.wait4(self.process.pid, 0)
+        self.process.returncode = os.waitstatus_to_exitcode(status)
+        self.process.stdout.close()
         return used
 
 
 def made_index(path, folder, config):
-    with open(f"{folder}/config.toml", "w", encoding="utf-8") as file:
-        file.write(config)
     os.makedirs(f"{folder}/store")
-    with open(f"{folder}/config.toml", "rb") as file:
-        done = subprocess.run([path, f"{folder}/store", f"{folder}/logs", "create"], stdin=file, capture_output=True, check=False)
-    if done.stdout != b"created\n":
-        raise SystemExit(f"create: {done.stdout.decode()}")
+    poltyqen.Index(f"{folder}/store", f"{folder}/logs", path).create(config)
 
 
 def indexed(path, folder):
@@ -254,7 +234,7 @@ def indexed(path, folder):
     program = Program(path, f"{folder}/store", f"{folder}/logs")
     while program.line("indexer 0") != "indexer 0 caughtup":
         pass
-    peak = peak_of(program.work.pid)
+    peak = peak_of(program.process.pid)
     used = program.end()
     return time.monotonic() - begun, used.ru_utime + used.ru_stime, peak
 
