@@ -24,11 +24,14 @@ import tempfile
 import threading
 import time
 
+sys.path.insert(0, os.path.join(os.path.dirname(os.path.abspath(__file__)), "../clients/python"))
+import poltyqen
+
 PARTITIONS = 4
 # Later than the moment of the system's clock, at which `create` makes the index.
 AFTER_TODAY = 4_000_000_000
 
-CONFIG = b"""index_id = "killing"
+CONFIG = """index_id = "killing"
 
 [doc_mapping]
 mode = "strict"
@@ -54,26 +57,9 @@ deletion_grace_secs = 5
 """
 
 
-def started(path, folder):
-    return subprocess.Popen([path, f"{folder}/store", f"{folder}/logs", "drive"], stdin=subprocess.PIPE, stdout=subprocess.PIPE, bufsize=0)
-
-
-def line(work, text, rest):
-    work.stdin.write(text.encode() + b"\n")
-    while b"\n" not in rest[0]:
-        piece = os.read(work.stdout.fileno(), 1 << 20)
-        if not piece:
-            return None
-        rest[0] += piece
-    said, rest[0] = rest[0].split(b"\n", 1)
-    return said.decode()
-
-
-def collected(work, rest, done):
-    """One step of the collector. Returns the first word that it says, or None where the program is killed."""
-    said = line(work, "collector", rest)
-    if said is None:
-        return None
+def collected(drive, done):
+    """One step of the collector. Returns the first word that it says."""
+    said = drive.line("collector")
     word = said.split()[1]
     if word not in ("nothing", "marked", "doomed", "removed", "swept"):
         raise SystemExit(f"it says: {said}")
@@ -81,36 +67,34 @@ def collected(work, rest, done):
     return word
 
 
-def indexed(work, moment, collects):
+def indexed(drive, moment, collects):
     """Steps the indexers in turn, and the collector behind each round, until all are caught up, or until the program is killed.
     Returns the moment of the last round, or None where it was killed."""
-    rest, done = [b""], set()
+    done = set()
     try:
         while len(done) < PARTITIONS:
             moment += 2
-            if line(work, f"at {moment}", rest) is None:
-                return None
+            drive.line(f"at {moment}")
             for number in range(PARTITIONS):
                 if number not in done:
-                    said = line(work, f"indexer {number}", rest)
-                    if said is None:
-                        return None
+                    said = drive.line(f"indexer {number}")
                     if said.endswith("caughtup"):
                         done.add(number)
                     elif said.split()[2] not in ("checkpoint", "read", "staged", "uploaded", "published", "stale", "lost"):
                         raise SystemExit(f"it says: {said}")
-            if collected(work, rest, collects) is None:
-                return None
-    except BrokenPipeError:
+            collected(drive, collects)
+    except poltyqen.ProgramEnded as ended:
+        if ended.status >= 0:
+            raise
         return None
     return moment
 
 
-def all_collected(work, moment, rest, collects):
+def all_collected(drive, moment, collects):
     """Lets the collector mark what was left, and behind the grace take it away."""
     for behind in (100, 200):
-        line(work, f"at {moment + behind}", rest)
-        while collected(work, rest, collects) != "nothing":
+        drive.line(f"at {moment + behind}")
+        while collected(drive, collects) != "nothing":
             pass
 
 
@@ -137,12 +121,8 @@ class Reports(threading.Thread):
             self.done += 1
 
 
-def found(work, asked, rest):
-    line(work, "client a " + json.dumps({"search": asked}), rest)
-    while True:
-        said = line(work, "client a", rest)
-        if said.startswith("{"):
-            return json.loads(said)
+def found(drive, asked):
+    return drive.ask(poltyqen.request_text({"search": asked}))
 
 
 def main():
@@ -162,43 +142,39 @@ def main():
         with open(f"{folder}/logs/p{part}", "w", encoding="utf-8") as file:
             for number in range(part, asked.records, PARTITIONS):
                 file.write(json.dumps({"number": number, "body": f"record {number % 97}"}) + "\n")
-    made = subprocess.run([path, f"{folder}/store", f"{folder}/logs", "create"], input=CONFIG % asked.docs, capture_output=True, check=False)
-    if made.stdout != b"created\n":
-        raise SystemExit(f"create: {made.stdout.decode()}")
+    index = poltyqen.Index(f"{folder}/store", f"{folder}/logs", path)
+    index.create(CONFIG % asked.docs)
     reports = [Reports(path, folder) for _ in range(asked.reports)]
     for one in reports:
         one.start()
     killed, moment, collects = 0, AFTER_TODAY, collections.Counter()
     for _ in range(asked.kills):
-        work = started(path, folder)
-        timer = threading.Timer(chance.uniform(0.01, 0.3), work.kill)
+        drive = poltyqen.Drive(path, index.store, index.logs)
+        timer = threading.Timer(chance.uniform(0.01, 0.3), drive.process.kill)
         timer.start()
-        moment = (indexed(work, moment, collects) or moment) + 100
+        moment = (indexed(drive, moment, collects) or moment) + 100
         timer.cancel()
-        work.kill()
+        drive.kill()
         killed += 1
-        work.wait()
-    work = started(path, folder)
+    drive = poltyqen.Drive(path, index.store, index.logs)
     begun = time.monotonic()
-    moment = indexed(work, moment, collects)
+    moment = indexed(drive, moment, collects)
     if moment is None:
         raise SystemExit("the last run ended early")
     for one in reports:
         one.ended.set()
         one.join()
     wrong = [it for one in reports for it in one.wrong]
-    rest = [b""]
-    all_collected(work, moment, rest, collects)
-    many = found(work, {"query": "*", "max_hits": 0}, rest)["num_hits"]
+    all_collected(drive, moment, collects)
+    many = found(drive, {"query": "*", "max_hits": 0})["num_hits"]
     numbers = collections.Counter()
     for low in range(0, asked.records, 5_000):
-        hits = found(work, {"query": f"number:[{low} TO {low + 4_999}]", "max_hits": 10_000}, rest)["hits"]
+        hits = found(drive, {"query": f"number:[{low} TO {low + 4_999}]", "max_hits": 10_000})["hits"]
         numbers.update(it["number"] for it in hits)
-    work.stdin.close()
-    work.wait()
+    drive.end()
     files = len(os.listdir(f"{folder}/store/splits"))
-    rows = subprocess.run([path, f"{folder}/store", f"{folder}/logs", "splits"], capture_output=True, check=False).stdout.decode().splitlines()
-    unread = [it for it in rows if it.split()[1] != "published"] or [f"{files} files of {len(rows)} rows"] * (files != len(rows))
+    rows = index.splits()
+    unread = [it for it in rows if it.state != "published"] or [f"{files} files of {len(rows)} rows"] * (files != len(rows))
     entries = len(os.listdir(f"{folder}/store/meta"))
     print(
         f"{killed} kills, {asked.records} records, {sum(one.done for one in reports)} reports beside, {files} split files, "
