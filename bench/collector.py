@@ -18,7 +18,10 @@ import sys
 import tempfile
 import time
 
-CONFIG = b"""index_id = "collector"
+sys.path.insert(0, os.path.join(os.path.dirname(os.path.abspath(__file__)), "../clients/python"))
+import poltyqen
+
+CONFIG = """index_id = "collector"
 
 [doc_mapping]
 mode = "strict"
@@ -32,60 +35,42 @@ default_search_fields = ["body"]
 """
 
 
-class Index:
-    """Folders of an index, and the program over them."""
-
-    def __init__(self, program, folder):
-        self.program, self.folder = program, folder
-        self.store, self.logs = f"{folder}/store", f"{folder}/logs"
-        os.mkdir(self.store)
-        os.mkdir(self.logs)
-        with open(f"{self.logs}/p0", "w", encoding="utf-8") as file:
-            file.write('{"body":"red fox"}\n')
-
-    def run(self, command, text):
-        """What the command prints to this input."""
-        done = subprocess.run([self.program, self.store, self.logs, command], input=text, stdout=subprocess.PIPE, check=False)
-        if done.returncode != 0:
-            sys.exit(f"{command} ended with {done.returncode}: {done.stdout[-200:]!r}")
-        return done.stdout
+def made_index(program, folder):
+    """An index over a log of one record."""
+    store, logs = f"{folder}/store", f"{folder}/logs"
+    os.mkdir(store)
+    os.mkdir(logs)
+    with open(f"{logs}/p0", "w", encoding="utf-8") as file:
+        file.write('{"body":"red fox"}\n')
+    index = poltyqen.Index(store, logs, program)
+    index.create(CONFIG)
+    return index
 
 
-class Drive:
-    """A `drive` of which each line is answered before the next is asked for."""
-
-    def __init__(self, index):
-        self.work = subprocess.Popen([index.program, index.store, index.logs, "drive"], stdin=subprocess.PIPE, stdout=subprocess.PIPE)
-
-    def line(self, text):
-        """The outcome of a line, and in how many milliseconds it came."""
-        begun = time.perf_counter()
-        self.work.stdin.write(text + b"\n")
-        self.work.stdin.flush()
-        said = self.work.stdout.readline()
-        return said, (time.perf_counter() - begun) * 1000
-
-    def end(self):
-        self.work.stdin.close()
-        self.work.wait()
+def timed_line(drive, text):
+    """The outcome of a line, and in how many milliseconds it came."""
+    begun = time.perf_counter()
+    said = drive.line(text)
+    return said, (time.perf_counter() - begun) * 1000
 
 
 def stage(index, rows):
     """Leaves this many rows staged at moment 1000."""
-    given = index.run("drive", b"at 1000\n" + b"indexer 0\nindexer 0\nindexer 0\nrestart indexer 0\n" * rows)
-    staged = given.count(b" staged ")
-    if staged != rows:
-        sys.exit(f"{staged} rows were staged, not {rows}")
+    text = b"at 1000\n" + b"indexer 0\nindexer 0\nindexer 0\nrestart indexer 0\n" * rows
+    done = subprocess.run([index.program, index.store, index.logs, "drive"], input=text, stdout=subprocess.PIPE, check=False)
+    staged = done.stdout.count(b" staged ")
+    if done.returncode != 0 or staged != rows:
+        sys.exit(f"{staged} rows were staged, not {rows}: {done.stdout[-200:]!r}")
 
 
 def steps_of(index, steps):
     """Milliseconds of the opening, of an `at` line and of a step of the collector: medians of the last two."""
-    drive = Drive(index)
-    _, opened = drive.line(b"at 1000")
-    nothing = [drive.line(b"at 1000")[1] for _ in range(steps)]
-    stepped = [drive.line(b"collector") for _ in range(steps)]
+    drive = poltyqen.Drive(index.program, index.store, index.logs)
+    _, opened = timed_line(drive, "at 1000")
+    nothing = [timed_line(drive, "at 1000")[1] for _ in range(steps)]
+    stepped = [timed_line(drive, "collector") for _ in range(steps)]
     drive.end()
-    if any(said != b"collector nothing\n" for said, _ in stepped):
+    if any(said != "collector nothing" for said, _ in stepped):
         sys.exit(f"the collector did something: {stepped[:3]!r}")
     return opened, statistics.median(nothing), statistics.median(took for _, took in stepped)
 
@@ -99,8 +84,7 @@ def main():
     args = words.parse_args()
     folder = tempfile.mkdtemp(prefix="poltyqen-collector-", dir=args.folder)
     try:
-        index = Index(os.path.realpath(args.program), folder)
-        index.run("create", CONFIG)
+        index = made_index(os.path.realpath(args.program), folder)
         stage(index, args.rows)
         opened, line, bare = steps_of(index, args.steps)
         os.makedirs(f"{index.store}/splits", exist_ok=True)

@@ -141,7 +141,7 @@ def removed(path, source, folder, records, name, asks):
     names = set(glob.glob(f"{folder}/store/splits/*"))
     asking = index.delete(asks)
     took = index.work(REPLACED)
-    peak = measure.peak_of(index.program.work.pid)
+    peak = measure.peak_of(index.program.process.pid)
     made = sum(os.path.getsize(it) for it in set(glob.glob(f"{folder}/store/splits/*")) - names)
     left, wanted = index.count("*"), left_of(records, asks)
     index.end()

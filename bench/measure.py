@@ -1,14 +1,15 @@
 #!/usr/bin/env python3
 """Measures the built program beside SQLite FTS5: the same records, the same questions, in one run.
 
-    bench/measure.py PROGRAM [--before PROGRAM] [--records N ..] [--seed N] [--repeat N] [--folder FOLDER]
+    bench/measure.py PROGRAM [--before PROGRAM] [--records N ..] [--seed N] [--repeat N] [--folder FOLDER] [--json FILE]
 
 PROGRAM is the built program (`rt run` leaves it in crates/quick_node/out). It makes two corpora from a seed: records of a
 log (a datetime, a level of four values, a body of 2 to 20 words of a skewed vocabulary of 50,000, a number), and real text,
 the package descriptions of the system. Each is indexed by the program over a folder and by SQLite over a file, both are
 asked the same questions, the answers are compared, and a table of times, ratios, peak memory and bytes on disk is printed in
 Markdown; where another build of the program is named, it indexes the same records too, over a folder of its own, and is asked
-the same. Only Python's standard library is used; its sqlite3 must have FTS5.
+the same. The numbers are written as JSON too where a file is named, of which bench/plots.py makes pictures. Only Python's
+standard library and clients/python are used; its sqlite3 must have FTS5.
 """
 import argparse
 import bisect
@@ -26,6 +27,9 @@ import subprocess
 import sys
 import tempfile
 import time
+
+sys.path.insert(0, os.path.join(os.path.dirname(os.path.abspath(__file__)), "../clients/python"))
+import poltyqen
 
 LEVELS = ["debug", "info", "warn", "error"]
 WORDS = 50_000
@@ -198,54 +202,31 @@ def questions(records):
 
 # ---- the program
 
-class Program:
+class Program(poltyqen.Drive):
     """The program at work on a folder, a schedule line at a time."""
 
     def __init__(self, path, store, logs):
-        self.work = subprocess.Popen([path, store, logs, "drive"], stdin=subprocess.PIPE, stdout=subprocess.PIPE, bufsize=0)
-        self.said = self.work.stdout
-        self.rest = b""
-
-    def lines(self, text, count):
-        """Writes so many lines at once, and reads what is said to each."""
-        self.work.stdin.write((text + "\n").encode() * count)
-        while self.rest.count(b"\n") < count:
-            piece = os.read(self.said.fileno(), 1 << 20)
-            if not piece:
-                raise SystemExit(f"the program ended: {self.rest.decode()}")
-            self.rest += piece
-        *said, self.rest = self.rest.split(b"\n", count)
-        return [it.decode() for it in said]
-
-    def line(self, text):
-        return self.lines(text, 1)[0]
+        super().__init__(path, store, logs, stderr=None)
 
     def ask(self, asked):
-        """A search is opened and planned, and then each of its splits is fetched and it is replied, in one write."""
-        self.line("client a " + json.dumps({"search": asked}))
-        said = self.line("client a")
-        if said.startswith("a planned "):
-            said = self.lines("client a", int(said.split()[3]) + 1)[-1]
-        found = json.loads(said)
+        """The reply to a search. One that is refused ends the measurement."""
+        found = super().ask(poltyqen.request_text({"search": asked}))
         if "error" in found:
-            raise SystemExit(f"refused: {said}")
+            raise SystemExit(f"refused: {found}")
         return found
 
     def end(self):
-        self.work.stdin.close()
-        _, status, used = os.wait4(self.work.pid, 0)
-        self.work.returncode = os.waitstatus_to_exitcode(status)
+        """Lets the program end, and returns what the system says that it used."""
+        self.process.stdin.close()
+        _, status, used = os.wait4(self.process.pid, 0)
+        self.process.returncode = os.waitstatus_to_exitcode(status)
+        self.process.stdout.close()
         return used
 
 
 def made_index(path, folder, config):
-    with open(f"{folder}/config.toml", "w", encoding="utf-8") as file:
-        file.write(config)
     os.makedirs(f"{folder}/store")
-    with open(f"{folder}/config.toml", "rb") as file:
-        done = subprocess.run([path, f"{folder}/store", f"{folder}/logs", "create"], stdin=file, capture_output=True, check=False)
-    if done.stdout != b"created\n":
-        raise SystemExit(f"create: {done.stdout.decode()}")
+    poltyqen.Index(f"{folder}/store", f"{folder}/logs", path).create(config)
 
 
 def indexed(path, folder):
@@ -254,7 +235,7 @@ def indexed(path, folder):
     program = Program(path, f"{folder}/store", f"{folder}/logs")
     while program.line("indexer 0") != "indexer 0 caughtup":
         pass
-    peak = peak_of(program.work.pid)
+    peak = peak_of(program.process.pid)
     used = program.end()
     return time.monotonic() - begun, used.ru_utime + used.ru_stime, peak
 
@@ -329,8 +310,9 @@ def timed(repeat, work):
     return found, statistics.median(taken)
 
 
-def milli(seconds):
-    return f"{seconds * 1000:.2f}" if seconds < 0.1 else f"{seconds * 1000:.0f}"
+def milli(number):
+    """Milliseconds as they are shown."""
+    return f"{number:.2f}" if number < 100 else f"{number:.0f}"
 
 
 def sized(program, folder):
@@ -347,6 +329,23 @@ def indexed_before(before, folder):
     return sized(before, f"{folder}/before")
 
 
+class Table:
+    """A table of one corpus, of which each row is printed and kept."""
+
+    def __init__(self, corpus, records, size, has_before):
+        self.has_before = has_before
+        self.told = {"corpus": corpus, "records": records, "bytes": size, "rows": []}
+        print(f"\n**{corpus}, {records:,} records, {size / 1e6:.0f} MB of lines**\n")
+        print(f"| | Poltyqen | SQLite FTS5 | Ratio |{' Before |' if has_before else ''}\n|---|---|---|---|{'---|' if has_before else ''}")
+
+    def row(self, what, unit, shown, mine, other, older, same=True):
+        """A row: what was measured, in which unit, how a number of it is shown, and the numbers."""
+        was = f" {shown(older)} |" if self.has_before else ""
+        print(f"| {what}, {unit} | {shown(mine)} | {shown(other)} | {mine / other:.2f}{'' if same else ' (answers differ)'} |{was}")
+        numbers = {"poltyqen": mine, "sqlite": other, **({"before": older} if self.has_before else {})}
+        self.told["rows"].append({"what": what, "unit": unit, **numbers, "same": same})
+
+
 def measured(program, before, name, records, folder, repeat):
     os.makedirs(f"{folder}/logs")
     with open(f"{folder}/logs/p0", "w", encoding="utf-8") as file:
@@ -354,14 +353,13 @@ def measured(program, before, name, records, folder, repeat):
             file.write(json.dumps(record) + "\n")
     made_index(program, folder, CONFIG % DOCS_IN_A_SPLIT)
     ours = sized(program, folder)
-    olders = indexed_before(before, folder) if before else [0] * 4
+    olders = indexed_before(before, folder) if before else [None] * 4
     theirs = in_sqlite(f"{folder}/base.db", f"{folder}/logs/p0")
-    print(f"\n**{name}, {len(records):,} records, {os.path.getsize(f'{folder}/logs/p0') / 1e6:.0f} MB of lines**\n")
-    print(f"| | Poltyqen | SQLite FTS5 | Ratio |{' Before |' if before else ''}\n|---|---|---|---|{'---|' if before else ''}")
-    for what, mine, other, older in zip(("indexing, seconds", "indexing, processor seconds", "indexing, peak MB", "on disk, MB"),
-                                        ours, (*theirs[:2], theirs[2] / 1e6, os.path.getsize(f"{folder}/base.db") / 1e6), olders):
-        print(f"| {what} | {mine:.1f} | {other:.1f} | {mine / other:.2f} |{f' {older:.1f} |' if before else ''}")
-    equal = True
+    table = Table(name, len(records), os.path.getsize(f"{folder}/logs/p0"), before is not None)
+    theirs = (*theirs[:2], theirs[2] / 1e6, os.path.getsize(f"{folder}/base.db") / 1e6)
+    for (what, unit), mine, other, older in zip((("indexing", "seconds"), ("indexing", "processor seconds"), ("indexing", "peak MB"),
+                                                 ("on disk", "MB")), ours, theirs, olders):
+        table.row(what, unit, "{:.1f}".format, mine, other, older)
     at_work = Program(program, f"{folder}/store", f"{folder}/logs")
     was_at_work = Program(before, f"{folder}/before/store", f"{folder}/logs") if before else None
     base = sqlite3.connect(f"{folder}/base.db")
@@ -371,17 +369,21 @@ def measured(program, before, name, records, folder, repeat):
         said, mine = timed(repeat, lambda: at_work.ask(question.asked))
         told, other = timed(repeat, lambda: answer_of(base, question))
         same = question.shown(said) == told or question.shown(said) == [tuple(it) for it in told] if isinstance(told, list) else question.shown(said) == told
-        equal = equal and same
-        was = ""
+        older = None
         if was_at_work:
             was_at_work.ask(question.asked)
-            was = f" {milli(timed(repeat, lambda: was_at_work.ask(question.asked))[1])} |"
-        print(f"| {question.name}, ms | {milli(mine)} | {milli(other)} | {mine / other:.2f}{'' if same else ' (answers differ)'} |{was}")
+            older = 1000 * timed(repeat, lambda: was_at_work.ask(question.asked))[1]
+        table.row(question.name, "ms", milli, 1000 * mine, 1000 * other, older, same)
     at_work.end()
     if was_at_work:
         was_at_work.end()
-    question = questions(records)[0]
+    in_new_processes(table, program, before, questions(records)[0], folder, repeat)
+    sys.stdout.flush()
+    return table.told
 
+
+def in_new_processes(table, program, before, question, folder, repeat):
+    """The row of a question that each is asked in a process of its own."""
     def cold(path, store):
         fresh = Program(path, store, f"{folder}/logs")
         found = fresh.ask(question.asked)
@@ -390,10 +392,8 @@ def measured(program, before, name, records, folder, repeat):
 
     _, mine = timed(repeat, lambda: cold(program, f"{folder}/store"))
     other = statistics.median(cold_sqlite(f"{folder}/base.db", question) for _ in range(repeat))
-    was = f" {milli(timed(repeat, lambda: cold(before, f'{folder}/before/store'))[1])} |" if before else ""
-    print(f"| a rare word in a new process, ms | {milli(mine)} | {milli(other)} | {mine / other:.2f} |{was}")
-    sys.stdout.flush()
-    return equal
+    older = 1000 * timed(repeat, lambda: cold(before, f"{folder}/before/store"))[1] if before else None
+    table.row(f"{question.name} in a new process", "ms", milli, 1000 * mine, 1000 * other, older)
 
 
 def main():
@@ -404,21 +404,29 @@ def main():
     given.add_argument("--repeat", type=int, default=5)
     given.add_argument("--folder")
     given.add_argument("--before", help="another build of the program, which indexes the same and is asked the same")
+    given.add_argument("--json", help="a file for the numbers")
     asked = given.parse_args()
     program = os.path.abspath(asked.program)
     before = asked.before and os.path.abspath(asked.before)
-    print(f"Measured by bench/measure.py with seed {asked.seed} on {os.cpu_count()} processors of {platform.machine()}, "
-          f"Python {platform.python_version()}, SQLite {sqlite3.sqlite_version}; load {os.getloadavg()[0]:.1f} at the start. "
+    made = {"seed": asked.seed, "repeat": asked.repeat, "processors": os.cpu_count(), "machine": platform.machine(),
+            "python": platform.python_version(), "sqlite": sqlite3.sqlite_version, "load": os.getloadavg()[0]}
+    print(f"Measured by bench/measure.py with seed {asked.seed} on {made['processors']} processors of {made['machine']}, "
+          f"Python {made['python']}, SQLite {made['sqlite']}; load {made['load']:.1f} at the start. "
           f"Times of questions are medians of {asked.repeat}, warm, one process.")
-    equal = True
-    for name, made in [("Records of a log", log_records), ("Package descriptions", text_records)]:
+    tables = []
+    for name, records_of in [("Records of a log", log_records), ("Package descriptions", text_records)]:
         for count in asked.records:
             folder = tempfile.mkdtemp(prefix="poltyqen-bench-", dir=asked.folder)
             try:
-                equal = measured(program, before, name, list(made(count, asked.seed)), folder, asked.repeat) and equal
+                tables.append(measured(program, before, name, list(records_of(count, asked.seed)), folder, asked.repeat))
             finally:
                 shutil.rmtree(folder)
+    equal = all(row["same"] for table in tables for row in table["rows"])
     print("\nAll answers are equal." if equal else "\nSome answers differ.")
+    if asked.json:
+        with open(asked.json, "w", encoding="utf-8") as file:
+            json.dump({**made, "tables": tables}, file, indent=1)
+            file.write("\n")
     return 0 if equal else 1
 
 

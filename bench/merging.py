@@ -99,12 +99,12 @@ class Index:
 
     def processor(self):
         """The seconds of processor time that the process has used."""
-        with open(f"/proc/{self.program.work.pid}/stat", encoding="utf-8") as file:
+        with open(f"/proc/{self.program.process.pid}/stat", encoding="utf-8") as file:
             words = file.read().rsplit(")", 1)[1].split()
         return (int(words[11]) + int(words[12])) / os.sysconf("SC_CLK_TCK")
 
     def peak(self):
-        return measure.peak_of(self.program.work.pid)
+        return measure.peak_of(self.program.process.pid)
 
     def counted(self, query, repeat):
         taken = []

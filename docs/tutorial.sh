@@ -121,4 +121,8 @@ lines=$(wc -l < demo/logs/packages)
 same 'describe behind the kills' "$(poltyqen describe | tail -n 2 | tr '\n' ';')" "docs $(told "len(records) - $gone") rejected $(told 'refused');checkpoint packages $lines;"
 same 'each record once' "$(asked '{"search":{"query":"*","max_hits":0}}' | field 'r["num_hits"]')" "$(told "len(records) - $gone")"
 same 'words that are no command' "$(poltyqen frobnicate < /dev/null || true)" 'error 1 badwords'
+
+# The client for scripts, over the same program and folders of its own.
+python3 "$here/clients/python/test_poltyqen.py" "$program" 2> tests || { cat tests >&2; exit 1; }
+same 'the tests of the client for scripts' "$(tail -n 1 tests)" OK
 printf 'all as the tutorial says\n'

@@ -2,13 +2,14 @@
 """Kills the program at random moments while it indexes, starts it again over the same folders, and looks at the end whether
 each record is found once.
 
-    trials/killing.py PROGRAM [--kills N] [--records N] [--docs N] [--reports N] [--seed N]
+    trials/killing.py PROGRAM [--kills N] [--records N] [--docs N] [--reports N] [--seed N] [--run]
 
 The records lie in four partitions, and each has a number of its own. The program is killed (SIGKILL) so many times, and then
 let to its end. The collector steps among the indexers, with graces so short that it takes what each killed run left. Beside it
 so many loops ask `describe` and `splits` by turns, from the first run to the last: each report must end with status 0, say
-nothing on standard error, and never show an older revision than the report before it. What `*` finds must be as many as there
-are records, and the numbers that are found, read by pages, each record's own, once. Behind the collector's last step each file
+nothing on standard error, and never show an older revision than the report before it. With `--run` it is the command `run`
+that is killed, with four indexers, a merger, a delete worker and a collector in threads, which live by the system's clock;
+else `drive`, step by step. What `*` finds must be as many as there are records, and the numbers that are found, read by pages, each record's own, once. Behind the collector's last step each file
 is that of a published row. It prints how often it was killed, how many reports were written, what the collector did, what
 stands in the folder, and `each record once`, or what differs.
 """
@@ -24,11 +25,14 @@ import tempfile
 import threading
 import time
 
+sys.path.insert(0, os.path.join(os.path.dirname(os.path.abspath(__file__)), "../clients/python"))
+import poltyqen
+
 PARTITIONS = 4
 # Later than the moment of the system's clock, at which `create` makes the index.
 AFTER_TODAY = 4_000_000_000
 
-CONFIG = b"""index_id = "killing"
+CONFIG = """index_id = "killing"
 
 [doc_mapping]
 mode = "strict"
@@ -54,26 +58,9 @@ deletion_grace_secs = 5
 """
 
 
-def started(path, folder):
-    return subprocess.Popen([path, f"{folder}/store", f"{folder}/logs", "drive"], stdin=subprocess.PIPE, stdout=subprocess.PIPE, bufsize=0)
-
-
-def line(work, text, rest):
-    work.stdin.write(text.encode() + b"\n")
-    while b"\n" not in rest[0]:
-        piece = os.read(work.stdout.fileno(), 1 << 20)
-        if not piece:
-            return None
-        rest[0] += piece
-    said, rest[0] = rest[0].split(b"\n", 1)
-    return said.decode()
-
-
-def collected(work, rest, done):
-    """One step of the collector. Returns the first word that it says, or None where the program is killed."""
-    said = line(work, "collector", rest)
-    if said is None:
-        return None
+def collected(drive, done):
+    """One step of the collector. Returns the first word that it says."""
+    said = drive.line("collector")
     word = said.split()[1]
     if word not in ("nothing", "marked", "doomed", "removed", "swept"):
         raise SystemExit(f"it says: {said}")
@@ -81,36 +68,34 @@ def collected(work, rest, done):
     return word
 
 
-def indexed(work, moment, collects):
+def indexed(drive, moment, collects):
     """Steps the indexers in turn, and the collector behind each round, until all are caught up, or until the program is killed.
     Returns the moment of the last round, or None where it was killed."""
-    rest, done = [b""], set()
+    done = set()
     try:
         while len(done) < PARTITIONS:
             moment += 2
-            if line(work, f"at {moment}", rest) is None:
-                return None
+            drive.line(f"at {moment}")
             for number in range(PARTITIONS):
                 if number not in done:
-                    said = line(work, f"indexer {number}", rest)
-                    if said is None:
-                        return None
+                    said = drive.line(f"indexer {number}")
                     if said.endswith("caughtup"):
                         done.add(number)
                     elif said.split()[2] not in ("checkpoint", "read", "staged", "uploaded", "published", "stale", "lost"):
                         raise SystemExit(f"it says: {said}")
-            if collected(work, rest, collects) is None:
-                return None
-    except BrokenPipeError:
+            collected(drive, collects)
+    except poltyqen.ProgramEnded as ended:
+        if ended.status >= 0:
+            raise
         return None
     return moment
 
 
-def all_collected(work, moment, rest, collects):
+def all_collected(drive, moment, collects):
     """Lets the collector mark what was left, and behind the grace take it away."""
     for behind in (100, 200):
-        line(work, f"at {moment + behind}", rest)
-        while collected(work, rest, collects) != "nothing":
+        drive.line(f"at {moment + behind}")
+        while collected(drive, collects) != "nothing":
             pass
 
 
@@ -137,12 +122,40 @@ class Reports(threading.Thread):
             self.done += 1
 
 
-def found(work, asked, rest):
-    line(work, "client a " + json.dumps({"search": asked}), rest)
-    while True:
-        said = line(work, "client a", rest)
-        if said.startswith("{"):
-            return json.loads(said)
+def ran(path, index, *options, killed_behind=None):
+    """Starts `run`, and kills it behind so many seconds. Returns the lines of the ends, or None where it was killed."""
+    command = [path, index.store, index.logs, "run", f"--indexers={PARTITIONS}", "--searchers=1", "--turns=1000000", *options]
+    process = subprocess.Popen(command, stdin=subprocess.DEVNULL, stdout=subprocess.PIPE, stderr=subprocess.PIPE, text=True)
+    timer = threading.Timer(killed_behind, process.kill) if killed_behind is not None else None
+    if timer:
+        timer.start()
+    said, told = process.communicate()
+    if timer:
+        timer.cancel()
+    if process.returncode < 0:
+        return None
+    lines = said.splitlines()
+    allowed = ("caughtup", "nothing", "turns", "settled")
+    if process.returncode != 0 or told or any(it.split()[-1] not in allowed for it in lines):
+        raise SystemExit(f"it ends with status {process.returncode}: {lines} {told!r}")
+    return lines
+
+
+def all_ran(path, index):
+    """Runs to the end, and again behind the graces until only published rows are left."""
+    ends = ran(path, index, "--settle")
+    wanted = [f"indexer {it} caughtup" for it in range(PARTITIONS)]
+    if ends is None or ends[:PARTITIONS] != wanted or ends[-1] != "settled":
+        raise SystemExit(f"the last run says: {ends}")
+    for _ in range(6):
+        time.sleep(9)
+        ran(path, index)
+        if all(it.state == "published" for it in index.splits()):
+            break
+
+
+def found(drive, asked):
+    return drive.ask(poltyqen.request_text({"search": asked}))
 
 
 def main():
@@ -153,6 +166,7 @@ def main():
     given.add_argument("--docs", type=int, default=700, help="how many documents a split has")
     given.add_argument("--reports", type=int, default=1)
     given.add_argument("--seed", type=int, default=7)
+    given.add_argument("--run", action="store_true", help="kill the command run, where every actor has a thread of its own")
     asked = given.parse_args()
     chance, path = random.Random(asked.seed), os.path.abspath(asked.program)
     folder = tempfile.mkdtemp(prefix="poltyqen-killing-")
@@ -162,43 +176,45 @@ def main():
         with open(f"{folder}/logs/p{part}", "w", encoding="utf-8") as file:
             for number in range(part, asked.records, PARTITIONS):
                 file.write(json.dumps({"number": number, "body": f"record {number % 97}"}) + "\n")
-    made = subprocess.run([path, f"{folder}/store", f"{folder}/logs", "create"], input=CONFIG % asked.docs, capture_output=True, check=False)
-    if made.stdout != b"created\n":
-        raise SystemExit(f"create: {made.stdout.decode()}")
+    index = poltyqen.Index(f"{folder}/store", f"{folder}/logs", path)
+    index.create(CONFIG % asked.docs)
     reports = [Reports(path, folder) for _ in range(asked.reports)]
     for one in reports:
         one.start()
     killed, moment, collects = 0, AFTER_TODAY, collections.Counter()
-    for _ in range(asked.kills):
-        work = started(path, folder)
-        timer = threading.Timer(chance.uniform(0.01, 0.3), work.kill)
+    for _ in range(asked.kills if asked.run else 0):
+        killed += ran(path, index, killed_behind=chance.uniform(0.01, 0.3)) is None
+    for _ in range(0 if asked.run else asked.kills):
+        drive = poltyqen.Drive(path, index.store, index.logs)
+        timer = threading.Timer(chance.uniform(0.01, 0.3), drive.process.kill)
         timer.start()
-        moment = (indexed(work, moment, collects) or moment) + 100
+        moment = (indexed(drive, moment, collects) or moment) + 100
         timer.cancel()
-        work.kill()
+        drive.kill()
         killed += 1
-        work.wait()
-    work = started(path, folder)
     begun = time.monotonic()
-    moment = indexed(work, moment, collects)
+    if asked.run:
+        all_ran(path, index)
+    drive = poltyqen.Drive(path, index.store, index.logs)
+    if not asked.run:
+        moment = indexed(drive, moment, collects)
     if moment is None:
         raise SystemExit("the last run ended early")
     for one in reports:
         one.ended.set()
         one.join()
     wrong = [it for one in reports for it in one.wrong]
-    rest = [b""]
-    all_collected(work, moment, rest, collects)
-    many = found(work, {"query": "*", "max_hits": 0}, rest)["num_hits"]
+    if not asked.run:
+        all_collected(drive, moment, collects)
+    many = found(drive, {"query": "*", "max_hits": 0})["num_hits"]
     numbers = collections.Counter()
     for low in range(0, asked.records, 5_000):
-        hits = found(work, {"query": f"number:[{low} TO {low + 4_999}]", "max_hits": 10_000}, rest)["hits"]
+        hits = found(drive, {"query": f"number:[{low} TO {low + 4_999}]", "max_hits": 10_000})["hits"]
         numbers.update(it["number"] for it in hits)
-    work.stdin.close()
-    work.wait()
+    drive.end()
     files = len(os.listdir(f"{folder}/store/splits"))
-    rows = subprocess.run([path, f"{folder}/store", f"{folder}/logs", "splits"], capture_output=True, check=False).stdout.decode().splitlines()
-    unread = [it for it in rows if it.split()[1] != "published"] or [f"{files} files of {len(rows)} rows"] * (files != len(rows))
+    rows = index.splits()
+    unread = [it for it in rows if it.state != "published"] or [f"{files} files of {len(rows)} rows"] * (files != len(rows))
     entries = len(os.listdir(f"{folder}/store/meta"))
     print(
         f"{killed} kills, {asked.records} records, {sum(one.done for one in reports)} reports beside, {files} split files, "
