@@ -67,13 +67,18 @@ pub mod IndexerSteps
 pub mod IndexerEnds
 pub mod Rested
 pub mod WorkerSteps
+pub mod WorkerTurns
 pub mod WorkerEnds
 pub mod OfferSteps
+pub mod OfferWorks
 pub mod CollectorSteps
+pub mod CollectorWorks
 pub mod CollectorEnds
+pub mod Rising
 pub mod Served
 pub mod JobSays
 pub mod Calmed
+pub mod RunSays
 pub mod Keeping
 pub mod Unasked
 pub mod Appending
@@ -92,4 +97,4 @@ pub mod Says
 pub mod AllEnds
 pub mod RequestReplies
 pub mod Did
-pub mod RunSays
+pub mod RunCounts

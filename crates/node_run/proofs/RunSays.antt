@@ -1,59 +1,60 @@
--- What a run did, by counts of faults in the place of logs, and by the configuration of the journal at entry.
-use Rattle.std.proofs.Common.{◌≡◌, ◌≤◌, ℕ, zero, suc, false, List, [], ◌∷◌, length, map, take, sym, ap, subst, arith}
+-- What many did together says this of the journal at the exit.
+use Rattle.std.proofs.Common.{◌≡◌, ℕ, ◌≤◌, List, [], ◌∷◌, length, map, sym, ap, ◌∙◌, subst, arith}
 use Rattle.std.specs.List.{AllByRecursion}
 use Rattle.std.specs.Prelude.{Option, Some}
+use Rattle.byte_fields.specs.Causes.{last_count}
 use Rattle.index_config.specs.declared.config.IndexConfig.{IndexConfig}
-use Rattle.source_log.specs.Log.{Log}
-use Rattle.index_world.specs.Configuration.{config_or, configuration}
+use Rattle.source_log.specs.Log.{IsLog, Log}
 use Rattle.index_world.specs.Core.{Core, IsConfigured}
 use Rattle.index_world.specs.Gate.{IsSoundCore}
 use Rattle.index_world.specs.World.{Keeping, WorldStands}
-use Rattle.root_search.proofs.Stands.{configured_here, configured_is}
-use Rattle.run_plan.specs.declared.clients.Request.{Request}
-use Rattle.node_run.specs.declared.end_lines.ActorEnd.{ActorEnd}
-use Rattle.node_run.specs.declared.end_lines.ActorEnd.TheVariants as ends
-use Rattle.node_run.specs.declared.run_end.RunEnd.{RunEnd}
-use Rattle.node_run.specs.declared.run_end.RunOptions.{RunOptions}
-use Rattle.node_run.specs.RunAll.{EndsFrom}
-use Rattle.node_run.specs.RunDid.{RunDid}
-use Rattle.node_run.specs.RunExit.{EndsAre, RunReached}
+use Rattle.index_world.proofs.Agreement.{alike_of}
+use Rattle.root_search.specs.Replied.{AsksTexts}
+use Rattle.node_run.specs.Run.{IsRun, JobRan, JobRun}
+use Rattle.node_run.specs.Jobs.{Tells}
+use Rattle.node_run.specs.declared.job.Done.{Done}
+use Rattle.node_run.specs.declared.job.Job.{Job}
+use Rattle.shared_gate.specs.Recording.{Begun, last_world}
+use Rattle.shared_gate.specs.declared.recorded.Recorded.{Recorded}
+use Rattle.node_run.specs.JobSays.{IsCounted, JobSays}
+use Rattle.node_run.specs.Meanwhile.{IsBefore}
+use Rattle.node_run.proofs.Called.{alike_before, are_called, as_many}
+use Rattle.node_run.proofs.JobSays.{job_says}
 
--- the configuration of a core for which a world stands is the one under which it is read
-pub configured_so : (world : Keeping) (core : Core) (log : Log) → WorldStands world core log → IsConfigured (config_or (configuration core.history)) core
-configured_so world core log s =
-    let sound : IsSoundCore core log = record { kept = s.kept; world = s.world; timely = s.timely; opened = s.opened } in
-    let c = configured_here core log sound in
-    subst (λ (config : IndexConfig). IsConfigured config core) (sym (ap config_or (configured_is core log c.0 sound c.1))) c.1
+sound_of : (world : Keeping) (core : Core) (log : Log) → WorldStands world core log → IsSoundCore core log
+sound_of world core log s = record { kept = s.kept; world = s.world; timely = s.timely; opened = s.opened }
 
--- what holds of all holds of the first ones
-pub all_take : {A : Type 0} (P : A → Type 0) (n : ℕ) (xs : List A) → AllByRecursion P xs → AllByRecursion P (take n xs)
-all_take P zero xs all = tt
-all_take P (suc n) [] all = tt
-all_take P (suc n) (x ∷ xs) all = (all.0, all_take P n xs all.1)
+module _ {S K M L : Type 0} (tells : M → Option Log) (told : L → Option Log) (count : L → ℕ) (since : L → L → Type 0) (turns : ℕ) (begun : Recorded S K M) (jobs : List (Job L)) (last : Recorded S K M) (done : List (Done L))
+    (run : IsRun tells told count since turns begun jobs last done) (config : IndexConfig) (log : Log) (telling : tells begun.source.value ≡ Some log) (is_log : IsLog log)
+    (core end exit : Core) (stands : WorldStands begun.opened.value core log) (configured : IsConfigured config core) (ends : WorldStands last.world end log) (counted : last.world.store_faults ≤ last_count)
+    (on : IsBefore end exit) (at_exit : IsSoundCore exit log) (texts : AsksTexts config) where
+  abbrev Ran : JobRun L → Type 0
+  Ran one = JobRan tells told count turns last.events.items last.world since begun.opened.value begun.source.value one
 
-module _ {L : Type 0} (config : IndexConfig) (log : Log) (core exit : Core) (count : L → ℕ) (indexers turns : ℕ) where
-  ends_from : (n place : ℕ) (logs lasts : List L) (all : List ActorEnd) → n ≤ length logs → EndsAre config log exit.history (length core.history) core exit turns count indexers place (take n logs) lasts all →
-      EndsFrom config log core exit indexers turns place n (map count logs) (map count lasts) all
-  ends_from zero place logs lasts all few e = e
-  ends_from (suc n) place [] lasts all few e = absurd (omega (arith, few))
-  ends_from (suc n) place (own ∷ logs) [] all few e = absurd e
-  ends_from (suc n) place (own ∷ logs) (last ∷ lasts) [] few e = absurd e
-  ends_from (suc n) place (own ∷ logs) (last ∷ lasts) (ends.Indexer number end ∷ more) few e = (e.0.0, e.0.1, ends_from n (suc place) logs lasts more (omega (arith, few)) e.1)
-  ends_from (suc n) place (own ∷ logs) (last ∷ lasts) (ends.Merger end ∷ more) few e = absurd e.0
-  ends_from (suc n) place (own ∷ logs) (last ∷ lasts) (ends.Deleter end ∷ more) few e = absurd e.0
-  ends_from (suc n) place (own ∷ logs) (last ∷ lasts) (ends.Collector end ∷ more) few e = absurd e.0
+  abbrev Says : JobRun L → Type 0
+  Says one = JobSays count config log exit.history (length core.history) core exit turns (length one.places) one.job one.done
 
--- WHAT A RUN DID
-pub run_says : {S L : Type 0} (count : L → ℕ) (options : RunOptions) (log : Log) (core : Core) (logs : List L) (requests : List Request) (end : RunEnd S L) → options.indexers ≤ length logs →
-    RunReached count options (config_or (configuration core.history)) log core logs requests end → RunDid options log (map count logs) core requests (map count end.logs.items) end
-run_says count options log core logs requests end few r =
-    record {
-      exit = r.exit;
-      goes_on = r.goes_on;
-      stands = r.stands;
-      said = λ whole. record {
-        replies_are = r.replies whole;
-        ends_are = ends_from (config_or (configuration core.history)) log core r.exit count options.indexers options.turns options.indexers 0 logs end.logs.items end.ends.items few (r.ends whole);
-        settles = r.settled whole;
-      };
-    }
+  one_says : (one : JobRun L) → Ran one → Tells told log one.job → IsCounted count one.job → Says one
+  one_says one ran tell within =
+      let at = ran.at core log telling stands in
+      let after = at.after in
+      let alike = alike_of last.world after end log log at.stands ends in
+      let to_exit = alike_before after end exit alike on in
+      let opened_here : WorldStands last.opened.value core log = subst (λ (k : Keeping). WorldStands k core log) (sym run.opened) stands in
+      let source_here : tells last.source.value ≡ Some log = ap tells run.source ∙ telling in
+      let left : WorldStands (last_world last.opened.value last.events.items) after log = subst (λ (k : Keeping). WorldStands k after log) run.standing.last at.stands in
+      let called =
+      are_called (Begun tells last.opened.value last.source.value) log ((core, opened_here), source_here) core after exit last.opened.value last.events.items run.standing.linked opened_here left to_exit one.places at.made at.calls in
+      let faults = at.stands.store_faults in
+      let said =
+      job_says told count config log is_log core after exit (sound_of begun.opened.value core log stands) configured (sound_of last.world after log at.stands) at_exit to_exit (omega (arith, faults, counted)) texts turns at.made called
+      at.goes_on one.job one.done tell within at.did in
+      subst (λ (n : ℕ). JobSays count config log exit.history (length core.history) core exit turns n one.job one.done) (as_many last.events.items one.places at.made at.calls) said
+
+  all_say : (runs : List (JobRun L)) → AllByRecursion Ran runs → AllByRecursion (Tells told log) (map (λ (one : JobRun L). one.job) runs) → AllByRecursion (IsCounted count) (map (λ (one : JobRun L). one.job) runs) → AllByRecursion Says runs
+  all_say [] ran tell within = tt
+  all_say (one ∷ runs) ran tell within = (one_says one ran.0 tell.0 within.0, all_say runs ran.1 tell.1 within.1)
+
+  -- WHAT CAME OF ALL JOBS
+  pub run_says : AllByRecursion (Tells told log) jobs → AllByRecursion (IsCounted count) jobs → AllByRecursion Says run.runs
+  run_says tell within = all_say run.runs run.each (subst (AllByRecursion (Tells told log)) run.jobs_are tell) (subst (AllByRecursion (IsCounted count)) run.jobs_are within)

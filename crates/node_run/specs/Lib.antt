@@ -33,6 +33,7 @@ pub mod Closing
 pub mod Made
 pub mod Meanwhile
 pub mod ClientReplies
+pub mod Collects
 pub mod Ends
 pub mod SearcherReplies
 pub mod JobSays

@@ -1,3 +1,5 @@
+ghost use Rattle.std.specs.Prelude.{◌≡◌, IfOk, length};
+
 use byte_fields::{Client, Text};
 use clock_time::ScriptClock;
 use index_world::{Unopened, World};
@@ -26,6 +28,7 @@ const FOX: &str = "{\"delete\":{\"query\":\"fox\"}}";
 const LOOKS: u64 = 10_000_000;
 
 // What happened so far, and whether a thread looked for it in vain.
+#[derive(Drop)]
 struct Signals {
     leaf_begun: AtomicBool,
     read_begun: AtomicBool,
@@ -98,6 +101,7 @@ impl<'a> SourceLog for HeldLog<'a> {
 }
 
 // Keeps the first leaf of one client until the log is read and the other client has its reply.
+#[derive(Drop)]
 struct FirstLeaf<'a> {
     signals: &'a Signals,
     held: Client,
@@ -165,7 +169,9 @@ fn four_requests(alloc: Global) -> Result<Vec<Request>, Fail> {
     Ok(requests)
 }
 
-fn options() -> RunOptions {
+fn options() -> RunOptions
+    ensures { (result.indexers ≡ 1) × (result.searchers ≡ 2) }
+{
     RunOptions {
         indexers: 1,
         searchers: 2,
@@ -174,7 +180,9 @@ fn options() -> RunOptions {
     }
 }
 
-fn one<L>(alloc: Global, log: L) -> Result<Vec<L>, AllocError> {
+fn one<L: Drop>(alloc: Global, log: L) -> Result<Vec<L>, AllocError>
+    ensures { IfOk result (λ logs. length logs.items ≡ 1) }
+{
     let mut logs = Vec::new(alloc);
     logs.push(log)?;
     Ok(logs)
@@ -186,7 +194,9 @@ fn with_records<Rt: Threads + Wait + Sync>(
     alloc: Global,
     world: World<MemoryStore, ScriptClock>,
     logs: Vec<MemoryLog>,
-) -> (World<MemoryStore, ScriptClock>, Vec<MemoryLog>) {
+) -> (World<MemoryStore, ScriptClock>, Vec<MemoryLog>)
+    requires { length logs.items ≡ 1 }
+{
     let clock = ScriptClock::at(0);
     let requests = Vec::new(alloc);
     let end = run(rt, alloc, world, clock, logs, requests, options(), &NoHold);

@@ -64,7 +64,9 @@ fn asked(
 fn letters(alloc: Global, replies: &[Reply]) -> Result<Vec<u8>, AllocError> {
     let mut all = Vec::new(alloc);
     for reply in replies {
-        all.push(reply.client.as_bytes()[0])?;
+        if let Some(first) = reply.client.as_bytes().first() {
+            all.push(*first)?;
+        }
         let letter = match &reply.said {
             Said::Found { .. } => b'f',
             Said::Deleted { .. } => b'd',

@@ -1,5 +1,3 @@
-use Rattle.std.proofs.Common.{refl}
-use Rattle.index_world.specs.World.{WorldStands}
 use Rattle.shared_gate.specs.Recording.{Begun}
 use Rattle.node_run.proofs.Called.{are_called, as_many}
 use Rattle.node_run.proofs.run_laws.calls_are_seen.Goals as goal

@@ -5,7 +5,7 @@ use Rattle.byte_fields.specs.Causes.{last_count}
 use Rattle.index_world.specs.Configuration.{config_or, configuration}
 use Rattle.node_run.proofs.AskedTexts.{asked_utf8}
 use Rattle.node_run.proofs.Did.{RanTo, none_ran, ran_to, settled_did, unsettled_did}
-use Rattle.node_run.proofs.RunSays.{all_take, configured_so, run_says}
+use Rattle.node_run.proofs.RunCounts.{all_take, configured_so, run_says}
 use Rattle.node_run.proofs.threads.run.Goals as goal
 
 pub returns-then-options-clause-ran : goal.returns-then-options-clause-ran
