@@ -1,0 +1,4 @@
+pub mod Shares
+pub mod Beginnings
+pub mod Picks
+pub mod Turns

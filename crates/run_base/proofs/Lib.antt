@@ -1,0 +1,4 @@
+pub mod Finishing
+pub mod Together
+pub mod Ready
+pub mod Closing

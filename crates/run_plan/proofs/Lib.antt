@@ -1,0 +1,4 @@
+pub mod EverySo
+pub mod Places
+pub mod Asked
+pub mod Deals

@@ -1,0 +1,6 @@
+//! The logs of a run as one source.
+#![tactic(auto)]
+
+mod sources;
+
+pub use sources::Sources;
