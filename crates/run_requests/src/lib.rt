@@ -1,0 +1,10 @@
+//! The requests of a run, and how its input is read.
+#![tactic(auto)]
+
+mod lines;
+mod pieces;
+mod request;
+mod requests;
+
+pub use request::{LineError, Request, read_request};
+pub use requests::{MAX_CLIENTS, MAX_REQUESTS, ReadEnd, read_requests};
