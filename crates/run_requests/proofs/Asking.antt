@@ -11,7 +11,7 @@ use Rattle.run_requests.specs.Pieces.{ComesLine, IsUnbroken}
 use Rattle.run_requests.specs.Reading.{raw_lines, max_clients, with_client_name, Within, PassesLine, PassesInput, feed_behind}
 use Rattle.run_requests.specs.Request.{Asks}
 use Rattle.run_requests.specs.Requests.{clients_in, clients_with, Fits, EndsAt, ReadsFrom, Reads, IsFault, HasRead}
-use Rattle.run_requests.specs.declared.request.Request.{Request}
+use Rattle.run_plan.specs.declared.clients.Request.{Request}
 use Rattle.run_requests.specs.declared.requests.ReadEnd.{ReadEnd}
 use Rattle.run_requests.specs.declared.requests.ReadEnd.TheVariants as ends
 use Rattle.run_requests.proofs.Feeding.{before_feed}

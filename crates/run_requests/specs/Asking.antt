@@ -7,7 +7,7 @@ use Rattle.std.specs.Ordering.{nat_cmp}
 use Rattle.run_requests.specs.Reading.{raw_lines, max_clients, Within, feed_behind}
 use Rattle.run_requests.specs.Request.{Asks}
 use Rattle.run_requests.specs.Requests.{clients_in, Fits, IsOfTooMany, IsTooMany, EndsAt, ReadsFrom, Reads, IsFault, HasRead}
-use Rattle.run_requests.specs.declared.request.Request.{Request}
+use Rattle.run_plan.specs.declared.clients.Request.{Request}
 use Rattle.run_requests.specs.declared.requests.ReadEnd.{ReadEnd}
 use Rattle.run_requests.specs.declared.requests.ReadEnd.TheVariants as ends
 

@@ -3,7 +3,7 @@ use Rattle.std.specs.Prelude.{◌≡◌, ℕ, List, ◌∷◌, ◌++◌, Result,
 use Rattle.byte_fields.specs.ClientName.{IsClientName}
 use Rattle.run_requests.specs.declared.request.LineError.{LineError}
 use Rattle.run_requests.specs.declared.request.LineError.TheVariants as errors
-use Rattle.run_requests.specs.declared.request.Request.{Request}
+use Rattle.run_plan.specs.declared.clients.Request.{Request}
 
 -- The text is this request: a client's name, a blank, and bytes as they stand, also none.
 pub record Asks (text : List ℕ) (request : Request) : Type 0 where

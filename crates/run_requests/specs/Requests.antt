@@ -2,7 +2,7 @@
 use Rattle.std.specs.Prelude.{◌≡◌, ◌⊎◌, ℕ, suc, ◌+◌, ◌<◌, ◌≤◌, List, [], ◌∷◌, ◌++◌, length, Option}
 use Rattle.run_requests.specs.Reading.{raw_lines, max_clients, with_client_name, Within, PassesLine, PassesInput, FailsAfter}
 use Rattle.run_requests.specs.Request.{Asks, AsksNothing}
-use Rattle.run_requests.specs.declared.request.Request.{Request}
+use Rattle.run_plan.specs.declared.clients.Request.{Request}
 use Rattle.run_requests.specs.declared.requests.ReadEnd.{ReadEnd}
 use Rattle.run_requests.specs.declared.requests.ReadEnd.TheVariants as ends
 

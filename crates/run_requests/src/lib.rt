@@ -6,5 +6,5 @@ mod pieces;
 mod request;
 mod requests;
 
-pub use request::{LineError, Request, read_request};
+pub use request::{LineError, read_request};
 pub use requests::{MAX_CLIENTS, MAX_REQUESTS, ReadEnd, read_requests};

@@ -6,16 +6,10 @@ ghost use Rattle.run_requests.specs.Request.{IsAsked, IsBadWhere};
 
 use crate::pieces::first_word;
 use byte_fields::{Client, Text};
+use run_plan::Request;
 use std::alloc::{AllocError, Global};
 use std::str;
 use thiserror::Error;
-
-/// A line of a run's input.
-#[derive(Drop)]
-pub struct Request {
-    pub client: Client,
-    pub text: Text,
-}
 
 /// Why bytes are no line.
 #[derive(Debug, Drop, Error)]

@@ -6,11 +6,12 @@ ghost use Rattle.run_requests.specs.Asking.{AreClients, EndsByFault, GoesOrEnds,
 ghost use Rattle.run_requests.specs.Held.{held as in_hand};
 ghost use Rattle.run_requests.specs.Request.{Asks};
 ghost use Rattle.run_requests.specs.Requests.{HasRead, IsFault};
-ghost use Rattle.run_requests.specs.declared.request.Request.{Request as Line};
+ghost use Rattle.run_plan.specs.declared.clients.Request.{Request as Line};
 
 use crate::lines::{Lines, Next};
-use crate::request::{LineError, Request, read_request};
+use crate::request::{LineError, read_request};
 use byte_fields::{Client, Source};
+use run_plan::Request;
 use std::alloc::{AllocError, Global};
 use std::collections::BTreeSet;
 
