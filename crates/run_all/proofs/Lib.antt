@@ -1,3 +1,5 @@
+pub mod Loops
+pub mod Staffs
 pub mod Shares
 pub mod Beginnings
 pub mod Picks

@@ -1,5 +1,5 @@
 -- Every so many of a list are those whose turn is the same.
-use Rattle.std.proofs.Common.{◌≡◌, ◌⊎◌, ℕ, suc, ◌+◌, ◌-◌, ◌<◌, ◌≤◌, Bool, true, false, cond, eqb, List, [], ◌∷◌, length, refl, sym, ap, ◌∙◌, arith, inl, inr}
+use Rattle.std.proofs.Common.{◌≡◌, ◌⊎◌, ℕ, suc, ◌+◌, ◌-◌, ◌<◌, ◌≤◌, Bool, true, false, cond, eqb, List, [], ◌∷◌, length, refl, sym, ap, ◌∙◌, ◌++◌, zero, append_assoc, arith, inl, inr}
 use Rattle.std.proofs.lemmas.Bool.{eqb-true, eqb-false}
 use Rattle.run_plan.specs.Asked.{picked}
 use Rattle.run_plan.specs.Every.{every}
@@ -72,3 +72,18 @@ every_picked {A} count next place wait (x ∷ xs) less within ahead behind =
         every_here count wait x xs (omega (arith, w, same)) ∙ (ap (λ l. x ∷ l) (again (count - 1)
         (λ le. let e = own_ahead count next (coming_of count next) is less (omega (arith, le, same)) in omega (arith, e, same)) (λ lt. let e = own_behind count next (coming_of count next) is less (omega (arith, lt, same)) in omega (arith, e, same)))
         ∙ sym (own_pick place next (turns_of count (coming_of count next) (length xs)) x xs same))
+
+-- it was one's turn, and the next one comes
+pub turn_more : (count next coming rest : ℕ) (turns new : List ℕ) → (suc next ≡ count → coming ≡ 0) → ((suc next ≡ count → ⊥) → coming ≡ suc next) → 0 < rest → new ≡ turns ++ next ∷ [] →
+    new ++ turns_of count coming (rest - 1) ≡ turns ++ turns_of count next rest
+turn_more count next coming zero turns new last more some is = absurd (omega (arith, some))
+turn_more count next coming (suc rest) turns new last more some is =
+    let left : suc rest - 1 ≡ rest = omega arith in
+    ap (λ n. new ++ turns_of count coming n) left
+    ∙ (ap (λ l. l ++ turns_of count coming rest) is
+    ∙ (append_assoc turns (next ∷ []) (turns_of count coming rest)
+    ∙ ap (λ c. turns ++ next ∷ turns_of count c rest) (by_test (eqb (suc next) count) refl)))
+  where
+    by_test : (b : Bool) → eqb (suc next) count ≡ b → coming ≡ cond b 0 (suc next)
+    by_test true e = last (eqb-true (suc next) count e)
+    by_test false e = more (eqb-false (suc next) count e)

@@ -1,3 +1,4 @@
 pub mod Sharing
 pub mod Beginning
 pub mod Picking
+pub mod Made

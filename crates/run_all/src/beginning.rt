@@ -1,8 +1,9 @@
 //! An indexer for each log of a run, with the partitions that are its own.
 
-ghost use Rattle.std.specs.Prelude.{◌≡◌, ◌<◌, ◌≤◌, ◌++◌, ◌∷◌, [], IfOk, IfErr, length, vec_capacity, vec_len};
+ghost use Rattle.std.specs.Prelude.{◌≡◌, ◌<◌, IfOk, IfErr, length};
 ghost use Rattle.run_all.specs.Beginning.{AreBegun, IsBegun};
 
+use crate::filling::push_within;
 use indexing_run::Indexer;
 use run_plan::assigned;
 use source_log::{ReadError, SourceLog};
@@ -37,18 +38,6 @@ fn begin<L: SourceLog>(alloc: Global, log: L, count: usize, skipped: usize) -> B
             Begun::Failed { log, before, after }
         }
         Err(ReadError::Memory(_)) => Begun::Short(log),
-    }
-}
-
-// Puts it behind the others, for which there is room.
-fn push_within<T: Drop>(all: &mut Vec<T>, one: T)
-    requires { vec_len all.old < vec_capacity all.old }
-    ensures items { all.new.items ≡ all.old.items ++ one ∷ [] }
-    ensures room { vec_capacity all.old ≤ vec_capacity all.new }
-{
-    match all.push(one) {
-        Ok(()) => {}
-        Err(_) => unreachable!(),
     }
 }
 
