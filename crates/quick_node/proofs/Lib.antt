@@ -1,4 +1,5 @@
 pub mod Feeding
+pub mod Asking
 pub mod Written
 pub mod Opened
 mod TaskCauses

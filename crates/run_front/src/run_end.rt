@@ -1,0 +1,57 @@
+//! A run: what is handed in, and what comes back.
+
+use clock_time::ScriptClock;
+use index_world::{World, WorldError};
+use indexing_run::IndexerEnd;
+use meta_store::Refusal;
+use object_store::ObjectStore;
+use search_api::Reply;
+use source_log::SourceLog;
+use split_collector::CollectorEnd;
+use upkeep_run::WorkerEnd;
+
+/// How many actors of each kind work, how many steps a merger, a delete worker and a collector take at most, and whether the index is
+/// settled behind them.
+#[derive(Clone, Copy)]
+pub struct RunOptions {
+    pub indexers: usize,
+    pub searchers: usize,
+    pub turns: u64,
+    pub settle: bool,
+}
+
+/// The last outcome of an actor. An indexer has its place among the indexers.
+#[derive(Drop)]
+pub enum ActorEnd {
+    Indexer(usize, IndexerEnd),
+    Merger(WorkerEnd),
+    Deleter(WorkerEnd),
+    Collector(CollectorEnd),
+}
+
+/// What settling came to.
+#[derive(Drop)]
+pub enum Settled {
+    /// There was nothing more to do.
+    Whole,
+    /// A limit stands against its Stage.
+    Refused(Refusal),
+    /// A call of the world failed.
+    Fault(WorldError),
+}
+
+/// What comes back of a run.
+pub struct RunEnd<S: ObjectStore, L: SourceLog> {
+    pub world: World<S, ScriptClock>,
+    /// All that were handed in, in their order, each a later state.
+    pub logs: Vec<L>,
+    /// One for each request, in their order.
+    pub replies: Vec<Reply>,
+    /// Of each indexer in order, then of the merger, the delete worker and the collector.
+    pub ends: Vec<ActorEnd>,
+    /// Where settling was asked.
+    pub settled: Option<Settled>,
+    /// There was no memory to begin, for the names of an indexer's partitions, or for all replies. The lists of replies and ends may then lack
+    /// members.
+    pub memory: bool,
+}

@@ -1,0 +1,4 @@
+pub mod Serve
+pub mod Ending
+pub mod Runs
+pub mod Saying
