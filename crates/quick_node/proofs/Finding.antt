@@ -30,7 +30,7 @@ if_told (Some text) P h = h text refl
 -- ---- the last line
 
 -- an end without a last line leaves what was written
-still : (end : Ended) (held : List ℕ) (content : Option (List ℕ)) (mid last status : ℕ) → last_line end ≡ [] → EndsSo end held content mid last status → content ≡ Some held
+pub still : (end : Ended) (held : List ℕ) (content : Option (List ℕ)) (mid last status : ℕ) → last_line end ≡ [] → EndsSo end held content mid last status → content ≡ Some held
 still end held content mid last status silence w = w.written ∙ ap Some (ap (λ (t : List ℕ). held ++ t) (none w.wrote) ∙ append-nil held)
   where
     none : ((status ≡ ended_status end) × WroteLine mid last (last_line end) w.text) ⊎ ((status ≡ 11) × (w.text ≡ [])) → w.text ≡ []

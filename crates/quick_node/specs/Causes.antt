@@ -33,13 +33,9 @@ abbrev pub IsOneOf : ℕ → List ℕ → Type 0
 IsOneOf status [] = ⊥
 IsOneOf status (s ∷ more) = (status ≡ s) ⊎ IsOneOf status more
 
--- the statuses of a schedule
+-- the statuses of a schedule, and of a run
 abbrev pub drive_statuses : List ℕ
 drive_statuses = 0 ∷ 3 ∷ 4 ∷ 5 ∷ 6 ∷ 7 ∷ 8 ∷ 10 ∷ 11 ∷ []
-
--- those of a run
-abbrev pub run_statuses : List ℕ
-run_statuses = drive_statuses
 
 -- those of the making of an index
 abbrev pub create_statuses : List ℕ
@@ -57,20 +53,15 @@ other_statuses = 1 ∷ 11 ∷ []
 -- indexers than there are readers of the logs is none.
 pub record IsStatusOf (readers : ℕ) (given : List (List ℕ)) (status : ℕ) : Type 0 where
   pub drive : IsDrive given → IsOneOf status drive_statuses
-  pub run : AsksRun readers given → IsOneOf status run_statuses
+  pub run : AsksRun readers given → IsOneOf status drive_statuses
   pub create : IsCreate given → IsOneOf status create_statuses
   pub report : (asked : Report) → AsksFor asked given → IsOneOf status report_statuses
   pub other : (IsDrive given → ⊥) → (AsksRun readers given → ⊥) → (IsCreate given → ⊥) → (IsSplits given → ⊥) → (IsDescribe given → ⊥) → IsOneOf status other_statuses
 
--- a schedule ended with this status
+-- a schedule ended with this status, or a run
 pub record DriveCauses (before after : Faults) (status : ℕ) : Type 0 where
   pub causes : HasCauses before after status
   pub known : IsOneOf status drive_statuses
-
--- a run ended with this status
-pub record RunCauses (before after : Faults) (status : ℕ) : Type 0 where
-  pub causes : HasCauses before after status
-  pub known : IsOneOf status run_statuses
 
 -- the making of an index ended with this status
 pub record CreateCauses (before after : Faults) (status : ℕ) : Type 0 where

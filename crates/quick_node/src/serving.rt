@@ -13,7 +13,7 @@ ghost use Rattle.index_world.specs.World.{WorldStands};
 ghost use Rattle.node_run.specs.Node.{Node};
 ghost use Rattle.node_run.specs.Logs.{logs_in};
 ghost use Rattle.node_run.specs.Standing.{NodeStands};
-ghost use Rattle.quick_node.specs.Causes.{faults_of, IsOneOf, other_statuses, DriveCauses, RunCauses, CreateCauses, ReportCauses};
+ghost use Rattle.quick_node.specs.Causes.{faults_of, IsOneOf, other_statuses, DriveCauses, CreateCauses, ReportCauses};
 ghost use Rattle.quick_node.specs.Contract.{Serves};
 ghost use Rattle.quick_node.specs.Creating.{CreatesAt};
 ghost use Rattle.quick_node.specs.Ending.{EndsSo, ended_status};
@@ -386,7 +386,7 @@ fn run_world<
     ensures opening { (told : Option State) (count : ℕ) → WhereTold told world.told IsFoundFrom →
         EndsBy RunFinds (outside_of told count (R.left input.old) (R.fault_count input.old) (W.content output.old) (W.fault_count output.old))
         (outside_of (S.told result.0.store) (S.fault_count result.0.store) (R.left input.new) (R.fault_count input.new) (W.content output.new) (W.fault_count output.new)) result.0.status }
-    ensures causes { (low high : ℕ) → RunCauses (faults_of low (R.fault_count input.old) (W.fault_count output.old))
+    ensures causes { (low high : ℕ) → DriveCauses (faults_of low (R.fault_count input.old) (W.fault_count output.old))
         (faults_of high (R.fault_count input.new) (W.fault_count output.new)) result.0.status }
     ensures store_faults { result.0.store_faults ≡ S.fault_count result.0.store }
     ensures log_sum { result.0.log_faults ≡ min (sum (map L.fault_count (logs_in result.1))) last_count }
@@ -428,7 +428,7 @@ fn run_index<
         logs.items (logs_in result.1) input.new output.new (λ after. Runs asked history before after result.0.status) }
     ensures opening { EndsBy RunFinds (outside_of (S.told store) (S.fault_count store) (R.left input.old) (R.fault_count input.old) (W.content output.old) (W.fault_count output.old))
         (outside_of (S.told result.0.store) (S.fault_count result.0.store) (R.left input.new) (R.fault_count input.new) (W.content output.new) (W.fault_count output.new)) result.0.status }
-    ensures causes { RunCauses (faults_of (S.fault_count store) (R.fault_count input.old) (W.fault_count output.old))
+    ensures causes { DriveCauses (faults_of (S.fault_count store) (R.fault_count input.old) (W.fault_count output.old))
         (faults_of (S.fault_count result.0.store) (R.fault_count input.new) (W.fault_count output.new)) result.0.status }
     ensures store_faults { result.0.store_faults ≡ S.fault_count result.0.store }
     ensures log_sum { result.0.log_faults ≡ min (sum (map L.fault_count (logs_in result.1))) last_count }

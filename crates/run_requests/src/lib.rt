@@ -7,4 +7,6 @@ mod request;
 mod requests;
 
 pub use request::{LineError, read_request};
-pub use requests::{MAX_CLIENTS, MAX_REQUESTS, ReadEnd, read_requests};
+pub use requests::{
+    MAX_CLIENTS, MAX_REQUESTS, ReadEnd, read_requests, requests_are_read_in_one_way,
+};

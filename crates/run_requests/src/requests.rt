@@ -5,7 +5,9 @@ ghost use Rattle.byte_fields.specs.Causes.{HasCause};
 ghost use Rattle.run_requests.specs.Asking.{AreClients, EndsByFault, GoesOrEnds, HasRoom, IsGoing, TakesLine, or_whole};
 ghost use Rattle.run_requests.specs.Held.{held as in_hand};
 ghost use Rattle.run_requests.specs.Request.{Asks};
-ghost use Rattle.run_requests.specs.Requests.{HasRead, IsFault};
+ghost use Rattle.run_requests.specs.Requests.{HasRead, IsFault, Reads};
+ghost use Rattle.run_requests.specs.declared.requests.ReadEnd.{ReadEnd as End};
+ghost use Rattle.run_plan.specs.declared.clients.Request.{Request as Asked};
 ghost use Rattle.run_plan.specs.declared.clients.Request.{Request as Line};
 
 use crate::lines::{Lines, Next};
@@ -140,3 +142,8 @@ pub fn read_requests<R: Source>(
         }
     }
 }
+
+/// An input is read as requests in one way.
+pub fn requests_are_read_in_one_way()
+    ensures { (input : List ℕ) (ones others : List Asked) (end other : End) → (IsFault end → ⊥) → (IsFault other → ⊥) → Reads input ones end → Reads input others other → (ones ≡ others) × (end ≡ other) }
+{}
