@@ -1,4 +1,6 @@
 pub mod Loops
+pub mod Dealings
+pub mod Fronts
 pub mod Staffs
 pub mod Shares
 pub mod Beginnings

@@ -26,9 +26,9 @@ use Rattle.run_all.specs.Beginning.{AreBegun}
 use Rattle.run_all.specs.Sharing.{AreShares, turns_of}
 use Rattle.run_all.specs.declared.beginning.Begun.{Begun}
 use Rattle.run_all.specs.declared.beginning.Begun.TheVariants as begun
-use Rattle.run_all.specs.declared.run.ActorEnd.{ActorEnd}
-use Rattle.run_all.specs.declared.run.ActorEnd.TheVariants as ends
-use Rattle.run_all.specs.declared.run.RunEnd.{RunEnd}
+use Rattle.run_all.specs.declared.run_end.ActorEnd.{ActorEnd}
+use Rattle.run_all.specs.declared.run_end.ActorEnd.TheVariants as ends
+use Rattle.run_all.specs.declared.run_end.RunEnd.{RunEnd}
 
 -- an indexer that ended, and how
 pub record Indexed (L : Type 0) : Type 0 where

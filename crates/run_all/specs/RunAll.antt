@@ -11,10 +11,10 @@ use Rattle.run_plan.specs.Every.{every}
 use Rattle.run_plan.specs.declared.clients.Request.{Request}
 use Rattle.run_laws.specs.ClientReplies.{IsReplyTo}
 use Rattle.run_laws.specs.Ends.{CollectorEnded, DeleterEnded, IndexerEnded, MergerEnded}
-use Rattle.run_all.specs.declared.run.ActorEnd.{ActorEnd}
-use Rattle.run_all.specs.declared.run.ActorEnd.TheVariants as ends
-use Rattle.run_all.specs.declared.run.RunEnd.{RunEnd}
-use Rattle.run_all.specs.declared.run.RunOptions.{RunOptions}
+use Rattle.run_all.specs.declared.run_end.ActorEnd.{ActorEnd}
+use Rattle.run_all.specs.declared.run_end.ActorEnd.TheVariants as ends
+use Rattle.run_all.specs.declared.run_end.RunEnd.{RunEnd}
+use Rattle.run_all.specs.declared.run_end.RunOptions.{RunOptions}
 
 -- ---- the replies
 
