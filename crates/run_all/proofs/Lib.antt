@@ -1,4 +1,6 @@
 pub mod Loops
+pub mod Jobs
+pub mod Ran
 pub mod Dealings
 pub mod Fronts
 pub mod Staffs

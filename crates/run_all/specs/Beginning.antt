@@ -1,5 +1,5 @@
 -- The indexers with which a run begins.
-use Rattle.std.specs.Prelude.{◌≡◌, ℕ, suc, List, [], ◌∷◌, Option, Some, ⊤}
+use Rattle.std.specs.Prelude.{◌≡◌, ◌≤◌, ℕ, suc, List, [], ◌∷◌, Option, Some, ⊤}
 use Rattle.byte_fields.specs.Causes.{Rose}
 use Rattle.source_log.specs.Log.{Log, names_of}
 use Rattle.indexing_run.specs.Making.{IsAssigned}
@@ -10,9 +10,10 @@ use Rattle.run_all.specs.declared.beginning.Begun.{Begun}
 use Rattle.run_all.specs.declared.beginning.Begun.TheVariants as begun
 
 module _ {L : Type 0} (told : L → Option Log) (count : L → ℕ) (since : L → L → Type 0) where
-  -- a later state of a log, which tells what the log told
+  -- a later state of a log, which tells what the log told, and whose count of faults is no lower
   pub record IsKept (first last : L) : Type 0 where
     pub later : since first last
+    pub counts : count first ≤ count last
     pub tells : (log : Log) → told first ≡ Some log → told last ≡ Some log
 
   -- It is idle, and where its log tells, its partitions, which differ, are every so many of the log's, the first of them behind as many as its place says.

@@ -49,6 +49,7 @@ pub fn ends_of<L: SourceLog>(
     requires room { (vec_len posts ≤ vec_capacity all.logs) × (vec_len posts ≤ vec_capacity all.ends) }
     ensures logs { result.logs.items ≡ logs_behind posts.items indexed.items }
     ensures ends { result.ends.items ≡ ends_from 0 posts.items indexed.items }
+    ensures long { (vec_len result.logs ≡ vec_len posts) × (vec_len result.ends ≡ vec_len posts) }
     ensures room { (vec_capacity all.logs ≤ vec_capacity result.logs) × (vec_capacity all.ends ≤ vec_capacity result.ends) }
 {
     let Ended { logs, ends } = all;

@@ -2,7 +2,21 @@
 #![tactic(auto)]
 
 mod beginning;
+mod closing;
+mod ending;
+mod filling;
+mod outcome;
+mod planning;
+mod replying;
+mod room;
+mod run_end;
+mod running;
 mod sharing;
+mod staffing;
+mod turning;
 
 pub use beginning::{Begun, indexers_of};
+pub use planning::{Plan, planned};
+pub use run_end::{ActorEnd, RunEnd, RunOptions, Settled};
+pub use running::run;
 pub use sharing::shared_out;

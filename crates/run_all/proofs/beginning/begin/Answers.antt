@@ -1,4 +1,4 @@
-use Rattle.std.proofs.Common.{◌≡◌, ◌∙◌, List, ℕ, ap, subst, sym}
+use Rattle.std.proofs.Common.{◌≡◌, ◌≤◌, ◌∙◌, List, ℕ, ap, subst, sym}
 use Rattle.std.specs.Prelude.{None, Some}
 use Rattle.source_log.specs.Log.{IsToldLog, Log}
 use Rattle.indexing_run.specs.Making.{IsAssigned}
@@ -21,6 +21,7 @@ returns-in-Ok g c =
     record {
       kept = record {
         later = subst (t.since c.args.log) (sym (c.assign.ensures.log ∙ c.start-indexer.ensures.log)) c.in-Ok.ensures.later;
+        counts = subst (λ (log : g.row.L.Denot). t.fault_count c.args.log ≤ t.fault_count log) (sym (c.assign.ensures.log ∙ c.start-indexer.ensures.log)) c.in-Ok.ensures.cause.later;
         tells = λ read tells. (stands read tells).told;
       };
       idle = c.assign.ensures.place ∙ c.start-indexer.ensures.idle;
