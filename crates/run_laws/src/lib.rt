@@ -1,0 +1,2 @@
+//! What a run's replies and ends say, by the journal at its exit.
+#![tactic(auto)]
