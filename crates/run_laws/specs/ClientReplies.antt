@@ -1,5 +1,6 @@
 -- What the requests of a client were replied, by the journal at the end alone.
-use Rattle.std.specs.Prelude.{◌≡◌, ◌⊎◌, ◌+◌, ◌<◌, ◌≤◌, ℕ, List, [], ◌∷◌, ◌++◌, length, take, Result, Ok, Err, ⊤}
+use Rattle.std.specs.Prelude.{◌≡◌, ◌⊎◌, ◌+◌, ◌<◌, ◌≤◌, ℕ, Bool, false, List, [], ◌∷◌, ◌++◌, length, take, Result, Ok, Err, ⊤}
+use Rattle.std.specs.List.{AllZip}
 use Rattle.index_config.specs.declared.config.IndexConfig.{IndexConfig}
 use Rattle.meta_journal.specs.Places.{meta_key}
 use Rattle.meta_journal.specs.declared.entry.Entry.{Entry}
@@ -11,6 +12,8 @@ use Rattle.index_world.specs.Core.{Core}
 use Rattle.index_world.specs.Index.{max_entries}
 use Rattle.index_world.specs.Ran.{IsCause}
 use Rattle.index_world.specs.Seen.{visible_at}
+use Rattle.run_jobs.specs.declared.clients.Answered.{Answered}
+use Rattle.run_plan.specs.declared.clients.Asking.{Asking}
 use Rattle.root_search.specs.Answer.{answer}
 use Rattle.root_search.specs.Deletes.{task_behind}
 use Rattle.root_search.specs.Requests.{ask_of, asked_of}
@@ -24,6 +27,10 @@ use Rattle.search_api.specs.declared.resolved.Deletion.{Deletion}
 use Rattle.search_api.specs.declared.unanswered.Unanswered.{Unanswered}
 use Rattle.search_api.specs.declared.unanswered.Unanswered.TheVariants as reasons
 
+-- a revision that a journal of these entries had since it had so many
+abbrev pub IsReached : List Entry → (least : ℕ) → ℕ → Type 0
+IsReached entries least revision = (least ≤ revision) × (revision ≤ length entries)
+
 -- It came too late: it planned at this moment, which is none of before, and the grace behind that had passed.
 pub record IsLate (config : IndexConfig) (core exit : Core) (planned_at now : ℕ) : Type 0 where
   pub since : core.moment ≤ planned_at
@@ -32,10 +39,6 @@ pub record IsLate (config : IndexConfig) (core exit : Core) (planned_at now : �
 
 -- Over these entries of the journal at exit, of which there were so many at entry. From the one core to the other all worked.
 module _ (config : IndexConfig) (log : Log) (entries : List Entry) (least : ℕ) (core exit : Core) where
-  -- a revision that the journal had meanwhile
-  abbrev pub IsReached : ℕ → Type 0
-  IsReached revision = (least ≤ revision) × (revision ≤ length entries)
-
   -- ---- a search
 
   -- It was answered over what is visible at the revision that its reply names.
@@ -71,9 +74,9 @@ module _ (config : IndexConfig) (log : Log) (entries : List Entry) (least : ℕ)
   -- entries as a journal may have. Or an object stands behind the entries that the index did not make.
   abbrev pub RefusesDelete : Refusal → Type 0
   RefusesDelete (StoreFault before now) = IsCause before now core exit
-  RefusesDelete (TooManyTasks count) = (revision : ℕ) × IsReached revision × (count ≡ length (tasks_of reads (history (take revision entries)))) × (10000 ≤ count)
-  RefusesDelete Full = (revision : ℕ) × IsReached revision × (max_entries ≤ revision)
-  RefusesDelete (Foreign key) = (revision : ℕ) × IsReached revision × (key ≡ meta_key revision)
+  RefusesDelete (TooManyTasks count) = (revision : ℕ) × IsReached entries least revision × (count ≡ length (tasks_of reads (history (take revision entries)))) × (10000 ≤ count)
+  RefusesDelete Full = (revision : ℕ) × IsReached entries least revision × (max_entries ≤ revision)
+  RefusesDelete (Foreign key) = (revision : ℕ) × IsReached entries least revision × (key ≡ meta_key revision)
   RefusesDelete refusal = ⊥
 
   -- a refusal leaves the client's front
@@ -106,3 +109,16 @@ module _ (config : IndexConfig) (log : Log) (entries : List Entry) (least : ℕ)
   ClientReplies name front [] (reply ∷ replies) = ⊥
   ClientReplies name front (text ∷ texts) [] = ⊥
   ClientReplies name front (text ∷ texts) (reply ∷ replies) = IsReplyTo name front text reply × ClientReplies name reply.revision texts replies
+
+  -- ---- the clients of one searcher
+
+  -- Its texts have one reply each; or there was no memory, and the first ones of them have.
+  pub record ClientAnswered (asking : Asking) (answered : Answered) : Type 0 where
+    pub client : answered.client ≡ asking.client
+    pub replies : ClientReplies asking.client 0 (take (length answered.replies.items) asking.texts.items) answered.replies.items
+    pub all : answered.short ≡ false → length answered.replies.items ≡ length asking.texts.items
+
+  -- WHAT A SEARCHER ANSWERED: each of its clients; or there was no memory, and the first ones of them.
+  pub record SearcherAnswered (askings : List Asking) (answered : List Answered) (short : Bool) : Type 0 where
+    pub each : AllZip ClientAnswered (take (length answered) askings) answered
+    pub all : short ≡ false → length answered ≡ length askings
