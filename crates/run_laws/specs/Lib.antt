@@ -1,1 +1,2 @@
 pub mod ClientReplies
+pub mod Ends
