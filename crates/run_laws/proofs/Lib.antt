@@ -1,3 +1,13 @@
 pub mod Lists
 pub mod Replies
+pub mod Called
+pub mod CallsSay
+pub mod Low
+pub mod LastSteps
+pub mod Parts
+pub mod IndexerSteps
+pub mod IndexerEnds
+pub mod Rested
+pub mod WorkerSteps
+pub mod WorkerEnds
 pub mod Served

@@ -1,6 +1,5 @@
 -- What the requests of a client were replied, by the journal at the end alone.
-use Rattle.std.specs.Prelude.{◌≡◌, ◌⊎◌, ◌+◌, ◌<◌, ◌≤◌, ℕ, Bool, false, List, [], ◌∷◌, ◌++◌, length, take, Result, Ok, Err, ⊤}
-use Rattle.std.specs.List.{AllZip}
+use Rattle.std.specs.Prelude.{◌≡◌, ◌⊎◌, ◌+◌, ◌<◌, ◌≤◌, ℕ, List, [], ◌∷◌, ◌++◌, length, take, Result, Ok, Err, ⊤}
 use Rattle.index_config.specs.declared.config.IndexConfig.{IndexConfig}
 use Rattle.meta_journal.specs.Places.{meta_key}
 use Rattle.meta_journal.specs.declared.entry.Entry.{Entry}
@@ -12,8 +11,6 @@ use Rattle.index_world.specs.Core.{Core}
 use Rattle.index_world.specs.Index.{max_entries}
 use Rattle.index_world.specs.Ran.{IsCause}
 use Rattle.index_world.specs.Seen.{visible_at}
-use Rattle.run_jobs.specs.declared.clients.Answered.{Answered}
-use Rattle.run_plan.specs.declared.clients.Asking.{Asking}
 use Rattle.root_search.specs.Answer.{answer}
 use Rattle.root_search.specs.Deletes.{task_behind}
 use Rattle.root_search.specs.Requests.{ask_of, asked_of}
@@ -109,16 +106,3 @@ module _ (config : IndexConfig) (log : Log) (entries : List Entry) (least : ℕ)
   ClientReplies name front [] (reply ∷ replies) = ⊥
   ClientReplies name front (text ∷ texts) [] = ⊥
   ClientReplies name front (text ∷ texts) (reply ∷ replies) = IsReplyTo name front text reply × ClientReplies name reply.revision texts replies
-
-  -- ---- the clients of one searcher
-
-  -- Its texts have one reply each; or there was no memory, and the first ones of them have.
-  pub record ClientAnswered (asking : Asking) (answered : Answered) : Type 0 where
-    pub client : answered.client ≡ asking.client
-    pub replies : ClientReplies asking.client 0 (take (length answered.replies.items) asking.texts.items) answered.replies.items
-    pub all : answered.short ≡ false → length answered.replies.items ≡ length asking.texts.items
-
-  -- WHAT A SEARCHER ANSWERED: each of its clients; or there was no memory, and the first ones of them.
-  pub record SearcherAnswered (askings : List Asking) (answered : List Answered) (short : Bool) : Type 0 where
-    pub each : AllZip ClientAnswered (take (length answered) askings) answered
-    pub all : short ≡ false → length answered ≡ length askings

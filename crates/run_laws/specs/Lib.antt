@@ -1,2 +1,3 @@
 pub mod ClientReplies
 pub mod Ends
+pub mod SearcherReplies
