@@ -14,12 +14,13 @@ use Rattle.index_world.proofs.InCore.{goes_less}
 use Rattle.index_world.proofs.Ran.{goes_then}
 use Rattle.root_search.proofs.NextReplies.{begins_same}
 use Rattle.root_search.proofs.Stretches.{longer}
-use Rattle.shared_gate.specs.Recording.{IsLinked, last_world, uploaded_by}
+use Rattle.shared_gate.specs.Recording.{IsLinked, Led, last_world, uploaded_by}
 use Rattle.shared_gate.specs.Sharing.{AtPlaces, HasCall, last_core}
 use Rattle.shared_gate.specs.SharedLaws.{life_goes}
 use Rattle.shared_gate.specs.declared.recorded.Event.{Event}
 use Rattle.shared_gate.proofs.Lives.{follow}
-use Rattle.run_laws.proofs.Replies.{IsBefore, before_then, goes_before}
+use Rattle.run_laws.specs.Meanwhile.{IsBefore, IsCalled}
+use Rattle.run_laws.proofs.Replies.{before_then, goes_before}
 
 -- cores for which one world stands are each no later than the other
 pub alike_before : (core other exit : Core) → AreAlike core other → IsBefore other exit → IsBefore core exit
@@ -34,54 +35,51 @@ alike_before core other exit same on =
       moment = omega (arith, moment, least);
     }
 
--- It left a front of the journal at exit, and a moment of meanwhile that is none before those of its entries.
-pub record IsCalled (first exit : Core) (call : CallMade) : Type 0 where
-  pub front : call.history ≡ take (length call.history) exit.history
-  pub begins : length first.history ≤ length call.history
-  pub ends : length call.history ≤ length exit.history
-  pub since : first.moment ≤ call.moment
-  pub until : call.moment ≤ exit.moment
-  pub greatest : moment_of (history call.history) ≤ call.moment
+-- a world stands for a core on the way to one for which the last world stands
+pub record OnTheWay (log : Log) (first : Core) (world last : Keeping) : Type 0 where
+  pub core : Core
+  pub from : GoesFor Nobody first core
+  pub stands : WorldStands world core log
+  pub end : Core
+  pub to : GoesFor Nobody core end
+  pub ends : WorldStands last end log
+
+led_goes : (one : Option ℕ) (core after : Core) → GoesFor (IsOther one) core after → GoesFor Nobody core after
+led_goes one core after on = goes_less (IsOther one) Nobody core after (λ n none. absurd none) on
+
+-- the same, from an earlier core
+way_from : (log : Log) (first mid : Core) (world last : Keeping) → GoesFor Nobody first mid → OnTheWay log mid world last → OnTheWay log first world last
+way_from log first mid world last to way =
+    record { core = way.core; from = goes_then first mid way.core to way.from; stands = way.stands; end = way.end; to = way.to; ends = way.ends }
+
+nothing_there : {A : Type 0} (x : A) (place : ℕ) → slice_get [] place ≡ Some x → ⊥
+nothing_there x place there = cc
+
+same_there : {A : Type 0} (x y : A) (xs : List A) → slice_get (x ∷ xs) 0 ≡ Some y → x ≡ y
+same_there x y xs there = cc
 
 module _ {S : Type 0} (begun : Log → Type 0) (log : Log) (begins : begun log) where
-  -- a world of the list stands for a core on the way to one for which the last world stands
-  pub record OnTheWay (first : Core) (world last : Keeping) : Type 0 where
-    pub core : Core
-    pub from : GoesFor Nobody first core
-    pub stands : WorldStands world core log
-    pub end : Core
-    pub to : GoesFor Nobody core end
-    pub ends : WorldStands last end log
-
-  led_goes : (one : Option ℕ) (core after : Core) → GoesFor (IsOther one) core after → GoesFor Nobody core after
-  led_goes one core after on = goes_less (IsOther one) Nobody core after (λ n none. absurd none) on
-
-  pub left_on : (first : Core) (world : Keeping) (events : List (Event S)) → IsLinked begun world events → WorldStands world first log → (place : ℕ) (event : Event S) → slice_get events place ≡ Some event →
-      OnTheWay first event.left.value (last_world world events)
-  left_on first world [] linked stands place event there = let wrong : ◌≡◌ {A = Option (Event S)} None (Some event) = there in cc wrong
-  left_on first world (one ∷ events) linked stands zero event there =
-      let same : one ≡ event = cc there in
-      let led = linked.0 log begins first stands in
-      let rest = follow begun log begins one.left.value events led.after linked.2 led.stands in
+  -- behind the call that led there
+  led_way : (first : Core) (one : Event S) (events : List (Event S)) → IsLinked begun one.left.value events → Led one first log → OnTheWay log first one.left.value (last_world one.left.value events)
+  led_way first one events linked led =
+      let rest = follow begun log begins one.left.value events led.after linked led.stands in
       record {
         core = led.after;
         from = led_goes (uploaded_by one.call) first led.after led.goes_on;
-        stands = subst (λ (e : Event S). WorldStands e.left.value led.after log) same led.stands;
+        stands = led.stands;
         end = last_core led.after rest.steps;
         to = life_goes led.after rest.steps rest.life;
         ends = rest.stands;
       }
+
+  pub left_on : (first : Core) (world : Keeping) (events : List (Event S)) → IsLinked begun world events → WorldStands world first log → (place : ℕ) (event : Event S) → slice_get events place ≡ Some event →
+      OnTheWay log first event.left.value (last_world world events)
+  left_on first world [] linked stands place event there = absurd (nothing_there event place there)
+  left_on first world (one ∷ events) linked stands zero event there =
+      subst (λ (e : Event S). OnTheWay log first e.left.value (last_world one.left.value events)) (same_there one event events there) (led_way first one events linked.2 (linked.0 log begins first stands))
   left_on first world (one ∷ events) linked stands (suc place) event there =
       let led = linked.0 log begins first stands in
-      let rest = left_on led.after one.left.value events linked.2 led.stands place event there in
-      record {
-        core = rest.core;
-        from = goes_then first led.after rest.core (led_goes (uploaded_by one.call) first led.after led.goes_on) rest.from;
-        stands = rest.stands;
-        end = rest.end;
-        to = rest.to;
-        ends = rest.ends;
-      }
+      way_from log first led.after event.left.value (last_world one.left.value events) (led_goes (uploaded_by one.call) first led.after led.goes_on) (left_on led.after one.left.value events linked.2 led.stands place event there)
 
   -- From a core of the first world up to one of the last world, behind which the journal went on up to the exit.
   module _ (first last exit : Core) (world : Keeping) (events : List (Event S)) (linked : IsLinked begun world events) (stands : WorldStands world first log) (ends : WorldStands (last_world world events) last log) (on : IsBefore last exit) where

@@ -42,14 +42,14 @@ use Rattle.indexing_run.proofs.Steps.{assigned_apart}
 use Rattle.indexing_run.proofs.Turns.{turns_enough}
 use Rattle.node_run.proofs.CallTells.{IsLowCore}
 use Rattle.root_search.proofs.Stands.{legal_before}
+use Rattle.run_laws.specs.Meanwhile.{IsBefore, IsCalled}
 use Rattle.run_laws.specs.ClientReplies.{IsReached}
 use Rattle.run_laws.specs.Ends.{FaultsIndexer, IndexerEnded, IsCrowded}
-use Rattle.run_laws.proofs.Called.{IsCalled}
 use Rattle.run_laws.proofs.CallsSay.{FaultAt, crowded_here}
 use Rattle.run_laws.proofs.IndexerSteps.{IsGood, IsStep, IsUnstaged, Says, step_is}
 use Rattle.run_laws.proofs.LastSteps.{LastStep, ends_last, works_go}
 use Rattle.run_laws.proofs.Lists.{all_back}
-use Rattle.run_laws.proofs.Replies.{IsBefore, cause_wider, same_front}
+use Rattle.run_laws.proofs.Replies.{cause_wider, same_front}
 
 -- ---- what an answer of the code is
 

@@ -10,4 +10,5 @@ pub mod IndexerEnds
 pub mod Rested
 pub mod WorkerSteps
 pub mod WorkerEnds
+pub mod OfferSteps
 pub mod Served

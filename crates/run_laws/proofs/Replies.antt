@@ -35,13 +35,8 @@ use Rattle.root_search.specs.Replied as replied
 use Rattle.root_search.specs.Requests.{asked_of}
 use Rattle.root_search.proofs.NextReplies.{begins_on}
 use Rattle.root_search.proofs.Stretches.{longer}
+use Rattle.run_laws.specs.Meanwhile.{IsBefore}
 use Rattle.run_laws.specs.ClientReplies.{ClientReplies, IsAnswered, IsDeleted, IsLate, IsReached, IsReplyTo, RefusesDelete, RefusesSearch, RepliesAsked, RepliesDelete, RepliesSearch}
-
--- by what is seen of them, the one core is no later than the other
-pub record IsBefore (core after : Core) : Type 0 where
-  pub grown : (more : List Entry) × (after.history ≡ core.history ++ more)
-  pub faults : core.store_faults ≤ after.store_faults
-  pub moment : core.moment ≤ after.moment
 
 pub goes_before : (core after : Core) → GoesFor Nobody core after → IsBefore core after
 goes_before core after on = record { grown = on.grown; faults = on.faults; moment = on.moment }

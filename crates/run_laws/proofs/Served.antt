@@ -25,9 +25,10 @@ use Rattle.root_search.proofs.Replied.{did_all, did_reply}
 use Rattle.run_jobs.specs.Clients.{ClientsDid, Served, ServedDid, ServesOne}
 use Rattle.run_jobs.specs.declared.clients.Answered.{Answered}
 use Rattle.run_plan.specs.declared.clients.Asking.{Asking}
+use Rattle.run_laws.specs.Meanwhile.{IsBefore}
 use Rattle.run_laws.specs.SearcherReplies.{ClientAnswered, SearcherAnswered}
 use Rattle.run_laws.proofs.Lists.{all_back, all_front, whole_front}
-use Rattle.run_laws.proofs.Replies.{IsBefore, client_replies}
+use Rattle.run_laws.proofs.Replies.{client_replies}
 
 -- ---- while a client was served the index went on
 

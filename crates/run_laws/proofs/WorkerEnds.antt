@@ -42,13 +42,13 @@ use Rattle.upkeep_run.specs.declared.working.WorkerEnd.TheVariants as ends
 use Rattle.node_run.proofs.CallTells.{IsLowCore}
 use Rattle.root_search.proofs.Stands.{legal_before}
 use Rattle.root_search.proofs.Stretches.{longer, under}
+use Rattle.run_laws.specs.Meanwhile.{IsBefore, IsCalled}
 use Rattle.run_laws.specs.ClientReplies.{IsReached}
 use Rattle.run_laws.specs.Ends.{FaultsWorker, HadNothing, IsApplied, WorkerEnded}
-use Rattle.run_laws.proofs.Called.{IsCalled}
 use Rattle.run_laws.proofs.CallsSay.{FaultAt, crowded_here}
 use Rattle.run_laws.proofs.LastSteps.{AllGoing, LastStep, all_going, ends_last, works_go}
 use Rattle.run_laws.proofs.Lists.{all_back}
-use Rattle.run_laws.proofs.Replies.{IsBefore, cause_wider}
+use Rattle.run_laws.proofs.Replies.{cause_wider}
 use Rattle.run_laws.proofs.Rested.{all_applied, none_chosen}
 use Rattle.run_laws.proofs.WorkerSteps.{FaultsAt, IsGood, IsIdleThen, IsStep, IsUnstaged, Says, step_is}
 
