@@ -10,13 +10,27 @@ use Rattle.index_world.specs.Collecting.{Offer, adopted_offer, answered_by, appe
 use Rattle.index_world.specs.Core.{Core}
 use Rattle.index_world.specs.Index.{max_entries}
 use Rattle.node_run.proofs.CallTells.{Gave, IsLowCore, IsNotThere, IsSettled, IsStoreTrouble, MadeLow, Settles, begun_settled, create_low, get_settles, made_none, settles}
-use Rattle.run_laws.proofs.CallsSay.{TroubleAt, store_fails}
 
--- what stands where an entry was refused or failed: the state offered it of what was taken in then
+-- the store failed, or the journal is full
+abbrev pub FullAt : Core → Trouble → Type 0
+FullAt core (faulted (store_fault before now)) = ⊤
+FullAt core (faulted (is_foreign key)) = ⊥
+FullAt core (faulted is_full) = max_entries ≤ length core.history
+FullAt core (faulted (is_expired planned_at now)) = ⊥
+FullAt core no_memory = ⊤
+
+pub full_of_store : (core : Core) (trouble : Trouble) → IsStoreTrouble trouble → FullAt core trouble
+full_of_store core (faulted (store_fault before now)) own = tt
+full_of_store core (faulted (is_foreign key)) own = absurd own
+full_of_store core (faulted is_full) own = absurd own
+full_of_store core (faulted (is_expired planned_at now)) own = absurd own
+full_of_store core no_memory own = tt
+
+-- Why an entry fails: it was refused that the state offered of what was taken in then; or the store failed, or the journal is full.
 abbrev pub Unoffers : {B A : Type 0} → (Core → Option (Offer B)) → Core → Result A Unmade → Type 0
 Unoffers offered core (Ok a) = ⊤
 Unoffers {B} offered core (Err (refused refusal)) = (offer : Offer B) × (offered core ≡ Some offer) × (answer_behind core.history (entry_of offer.act core) ≡ Err refusal)
-Unoffers offered core (Err (troubled trouble)) = TroubleAt core trouble
+Unoffers offered core (Err (troubled trouble)) = FullAt core trouble
 
 ok_err : {A : Type 0} (unmade : Unmade) (a : A) → ◌≡◌ {A = Result A Unmade} (Err unmade) (Ok a) → ⊥
 ok_err unmade a e = cc
@@ -48,7 +62,7 @@ module _ {B : Type 0} (none : B) (offered : Core → Option (Offer B)) (never : 
   short_offers false call core given o = o
 
   store_fails_so : (trouble : Trouble) (core : Core) → IsStoreTrouble trouble → Fails core (troubled trouble)
-  store_fails_so trouble core own = store_fails core (Err trouble) own
+  store_fails_so trouble core own = full_of_store core trouble own
 
   -- ---- the last create
 

@@ -1,11 +1,12 @@
 -- What the ends of the actors say, by the journal at the exit.
-use Rattle.std.specs.Prelude.{◌≡◌, ◌<◌, ◌≤◌, ℕ, true, false, List, [], ◌∷◌, length, take, find, MatchOption, Option, Some, None, Err, ⊤}
+use Rattle.std.specs.Prelude.{◌≡◌, ◌⊎◌, ◌<◌, ◌≤◌, ℕ, true, false, List, [], ◌∷◌, length, take, find, MatchOption, Option, Some, None, Err, ⊤}
 use Rattle.std.specs.List.{AllByRecursion}
 use Rattle.byte_fields.specs.Causes.{Rose}
 use Rattle.index_config.specs.declared.config.IndexConfig.{IndexConfig}
 use Rattle.merge_policy.specs.Chosen.{chosen}
 use Rattle.meta_journal.specs.Places.{split_key}
-use Rattle.meta_journal.specs.declared.entry.Act.TheVariants.{Remove}
+use Rattle.meta_journal.specs.declared.entry.Act.{Act}
+use Rattle.meta_journal.specs.declared.entry.Act.TheVariants.{MarkStaged, Remove}
 use Rattle.meta_journal.specs.declared.entry.Entry.{Entry}
 use Rattle.meta_store.specs.History.{history, last_opstamp, moment_of}
 use Rattle.meta_store.specs.Rows.{rows}
@@ -155,16 +156,17 @@ module _ (config : IndexConfig) (log : Log) (entries : List Entry) (least : ℕ)
     pub pages : List Listing
     pub none_left : GaveNone None pages
 
-  -- a Remove that the journal refused at this revision and moment
-  abbrev pub IsUnremoved : Refusal → Type 0
-  IsUnremoved refusal =
-      (revision moment : ℕ) × (numbers : List ℕ) × IsSeen revision moment × (answer_behind (take revision entries) (record { moment = moment; act = Remove numbers }) ≡ Err refusal)
+  -- a MarkStaged or a Remove that the journal refused at this revision and moment
+  abbrev pub IsRefusedOwn : Refusal → Type 0
+  IsRefusedOwn refusal =
+      (revision moment : ℕ) × (numbers : List ℕ) × (act : Act) × ((act ≡ MarkStaged numbers) ⊎ (act ≡ Remove numbers)) × IsSeen revision moment
+      × (answer_behind (take revision entries) (record { moment = moment; act = act }) ≡ Err refusal)
 
   -- The store failed; there was no room for an entry; or its own entry was refused.
   abbrev pub FaultsCollector : WorldError → Type 0
   FaultsCollector (errors.StoreFault before now) = IsCause before now core exit
   FaultsCollector errors.Full = WasFull
-  FaultsCollector (errors.Refused refusal) = IsUnremoved refusal
+  FaultsCollector (errors.Refused refusal) = IsRefusedOwn refusal
   FaultsCollector error = ⊥
 
   -- HOW A COLLECTOR ENDED that may take so many turns, and made so many calls, one in each of its steps at least.
