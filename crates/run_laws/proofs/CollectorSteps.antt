@@ -88,11 +88,11 @@ stale_never core offer e zero_is = let own = marked_own (stale_in core) offer e 
 pub removal_never : (core : Core) (offer : Offer ℕ) → removal_offer core ≡ Some offer → offer.answer ≡ 0 → ⊥
 removal_never core offer e zero_is = let own = removed_own (doomed_in core) offer e in own.2 (sym zero_is ∙ own.1)
 
-stale_unmade : (core : Core) (unmade : Unmade) → Unoffers {ℕ} {ℕ} stale_offer core (Err unmade) → Troubles core unmade
+stale_unmade : (core : Core) (unmade : Unmade) → Unoffers {B = ℕ} {A = ℕ} stale_offer core (Err unmade) → Troubles core unmade
 stale_unmade core (refused refusal) u = let own = marked_own (stale_in core) u.0 u.1 in (stale_in core, u.0.act, inl own.0, u.2)
 stale_unmade core (troubled trouble) u = u
 
-removal_unmade : (core : Core) (unmade : Unmade) → Unoffers {ℕ} {ℕ} removal_offer core (Err unmade) → Troubles core unmade
+removal_unmade : (core : Core) (unmade : Unmade) → Unoffers {B = ℕ} {A = ℕ} removal_offer core (Err unmade) → Troubles core unmade
 removal_unmade core (refused refusal) u = let own = removed_own (doomed_in core) u.0 u.1 in (doomed_in core, u.0.act, inr own.0, u.2)
 removal_unmade core (troubled trouble) u = u
 
@@ -198,8 +198,8 @@ turned_is (ended outcome) luck core says low = record { says = says; low = low }
 
 -- ---- a step
 
-none_asked : IsSome {A = Ask} None → ⊥
-none_asked asks = cc
+none_asked : (outcome : Option Outcome) → IsSome (ask_at (ended outcome)) → ⊥
+none_asked outcome asks = cc
 
 -- a turn at which there is a call is no end
 moved : (core : Core) (turn : Turn (Option Outcome)) → IsSome (ask_at turn) → TurnSays core turn
@@ -208,7 +208,7 @@ moved core to_doom asks = tt
 moved core to_remove asks = tt
 moved core (to_list behind) asks = tt
 moved core (to_sweep number next) asks = tt
-moved core (ended outcome) asks = absurd (none_asked asks)
+moved core (ended outcome) asks = absurd (none_asked outcome asks)
 
 module _ (Between : Core → Core → Type 0) (keeps_low : (core mid : Core) → Between core mid → IsLowCore core → IsLowCore mid) (first exit : Core) where
   abbrev IsMetCore : Core → Type 0

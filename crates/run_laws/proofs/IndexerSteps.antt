@@ -1,6 +1,6 @@
 -- What a step of an indexer says where it is refused or fails, and what it leaves.
-use Rattle.std.proofs.Common.{◌≡◌, ℕ, ◌<◌, ◌==◌, Bool, true, false, List, [], ◌∷◌, length, refl, sym, subst}
-use Rattle.std.specs.Prelude.{Option, Some, None, Result, Ok, Err, ⊤, if◌then◌else◌}
+use Rattle.std.proofs.Common.{◌≡◌, ℕ, ◌<◌, ◌==◌, Bool, true, false, List, [], ◌∷◌, length, take, drop, refl, sym, subst}
+use Rattle.std.specs.Prelude.{Option, Some, None, Result, Ok, Err, ⊤, if◌then◌else◌, nat_le}
 use Rattle.meta_journal.specs.Places.{split_key}
 use Rattle.meta_journal.specs.declared.entry.Act.TheVariants.{Publish}
 use Rattle.meta_store.specs.History.{history}
@@ -10,7 +10,7 @@ use Rattle.meta_store.specs.declared.refusal.Refusal.TheVariants as refusals
 use Rattle.source_checkpoint.specs.declared.delta.StaleDelta.{StaleDelta}
 use Rattle.source_checkpoint.specs.declared.delta.StaleDelta.TheVariants as deltas
 use Rattle.source_checkpoint.specs.declared.ledger.Checkpoint.{Checkpoint as Mark}
-use Rattle.source_log.specs.Log.{IsLog, Log}
+use Rattle.source_log.specs.Log.{Log, records_of}
 use Rattle.index_world.specs.Calls.{Trouble, faulted, no_memory, Unmade, refused, troubled, answer_behind, appended, asked, entry_of, looked}
 use Rattle.index_world.specs.Configuration.{config_or, configuration}
 use Rattle.index_world.specs.Core.{Core, journal_of}
@@ -20,7 +20,7 @@ use Rattle.indexing_run.specs.Making.{AreApart}
 use Rattle.indexing_run.specs.Outcomes.{IndexerOutcome}
 use Rattle.indexing_run.specs.Outcomes as said
 use Rattle.indexing_run.specs.Places.{Batch, Indexer, IndexerHeld, IndexerPlace, idle, reading, staged, uploaded}
-use Rattle.indexing_run.specs.Steps.{IndexerLuck, Stepped, batch_facts, checkpoints_by, idle_by, idle_unless, log_called, log_may_fail, or_short, partitions_for, publish_by, publish_refused, read_by, read_given, stage_by, step_batch, step_indexer, step_place, step_read, step_stage, stepped, take_checkpoints, trouble_outcome, upload_by}
+use Rattle.indexing_run.specs.Steps.{IndexerLuck, Stepped, batch_facts, checkpoints_by, idle_by, idle_unless, log_called, log_may_fail, or_short, partitions_for, publish_by, publish_refused, read_by, read_given, read_limit, stage_by, step_batch, step_indexer, step_place, step_read, start_of, step_stage, stepped, take_checkpoints, taken_from, trouble_outcome, upload_by}
 use Rattle.node_run.proofs.CallTells.{IfErr, IsLowCore, IsStoreTrouble, asked_own, copied_own}
 use Rattle.run_laws.proofs.CallsSay.{FaultAt, Fails, TroubleAt, Unmakes, entry_fails, file_fails, store_fails}
 use Rattle.run_laws.proofs.Low.{appended_low, asked_low, copied_low, file_made_low}
@@ -109,7 +109,11 @@ module _ (luck : IndexerLuck) (log : Log) (core : Core) (low : IsLowCore core) (
   module _ (batch : Batch) (open_so : IsOpen batch) where
     read_step : (fails : Bool) (mark : Mark) (rest : List Mark) (indexer : Indexer) (c : Core) → batch.queue ≡ mark ∷ rest → IsLowCore c → HasNames indexer → Steps (reading batch) (read_by fails luck log batch mark rest indexer c)
     read_step true mark rest indexer c is l has = record { says = tt; low = l; good = open_so; names_are = has }
-    read_step false mark rest indexer c is l has = record { says = tt; low = l; good = read_opens batch mark rest _ _ _ is open_so; names_are = has }
+    read_step false mark rest indexer c is l has =
+        let behind = drop mark.at (records_of log mark.partition) in
+        let limit = read_limit batch in
+        let taken = taken_from batch.config mark.partition mark.at (take limit behind) (start_of batch) in
+        record { says = tt; low = l; good = read_opens batch mark rest taken (nat_le (length behind) limit) c.moment is open_so; names_are = has }
 
     given_step : (r : Result ⊤ Trouble) (mark : Mark) (rest : List Mark) (indexer : Indexer) (c : Core) → batch.queue ≡ mark ∷ rest → Fails c r → IsLowCore c → HasNames indexer → Steps (reading batch) (read_given luck log batch mark rest indexer r c)
     given_step (Err trouble) mark rest indexer c is f l has = record { says = trouble_says (reading batch) c trouble f; low = l; good = tt; names_are = has }

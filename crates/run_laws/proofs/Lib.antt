@@ -11,4 +11,4 @@ pub mod Rested
 pub mod WorkerSteps
 pub mod WorkerEnds
 pub mod OfferSteps
-pub mod Served
+pub mod CollectorSteps

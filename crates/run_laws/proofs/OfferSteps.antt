@@ -45,7 +45,7 @@ module _ {B : Type 0} (none : B) (offered : Core → Option (Offer B)) (never : 
     pub none_left : given.answer ≡ Ok none → offered given.core ≡ None
 
   abbrev Fails : Core → Unmade → Type 0
-  Fails core unmade = Unoffers {B} {B} offered core (Err unmade)
+  Fails core unmade = Unoffers {B = B} {A = B} offered core (Err unmade)
 
   fails : (unmade : Unmade) (core : Core) → Fails core unmade → Offers (gives (Err unmade) core)
   fails unmade core f = record { says = f; none_left = λ e. absurd (ok_err unmade none e) }

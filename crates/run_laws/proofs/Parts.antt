@@ -1,5 +1,5 @@
 -- What a batch has read is a delta: its partitions differ, and of each it has read some.
-use Rattle.std.proofs.Common.{◌≡◌, ◌⊎◌, inl, inr, ℕ, zero, suc, ◌+◌, ◌≤◌, ◌<◌, ◌==◌, ◌||◌, Bool, true, false, List, [], ◌∷◌, ◌++◌, length, bytes_eq, refl, sym, ap, ◌∙◌, subst, arith}
+use Rattle.std.proofs.Common.{◌≡◌, ◌⊎◌, inl, inr, ℕ, zero, suc, ◌+◌, ◌≤◌, ◌<◌, ◌==◌, ◌||◌, Bool, true, false, List, [], ◌∷◌, ◌++◌, length, bytes_eq, refl, sym, ap, ◌∙◌, subst, arith, ne_eqb}
 use Rattle.std.specs.List.{AllByRecursion, list_any}
 use Rattle.std.specs.Prelude.{if◌then◌else◌}
 use Rattle.source_checkpoint.specs.Deltas.{IsDelta, Names}
@@ -125,7 +125,7 @@ module _ (parts : List Part) (mark : Checkpoint) (rest : List Checkpoint) (d : I
   reads_so (suc n) = by (suc n == 0) refl
     where
       apart : (suc n == 0) ≡ false
-      apart = refl
+      apart = ne_eqb (suc n) 0 (λ same. omega (arith, same))
 
       by : (b : Bool) → (suc n == 0) ≡ b → Reads (if b then parts else extended parts mark.partition mark.at (mark.at + suc n)) mark (suc n) rest
       by true e = absurd (false_true (sym apart ∙ e))

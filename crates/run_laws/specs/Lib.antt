@@ -1,4 +1,3 @@
 pub mod Meanwhile
 pub mod ClientReplies
 pub mod Ends
-pub mod SearcherReplies
