@@ -12,3 +12,5 @@ pub mod WorkerSteps
 pub mod WorkerEnds
 pub mod OfferSteps
 pub mod CollectorSteps
+pub mod CollectorEnds
+pub mod Served

@@ -1,3 +1,4 @@
 pub mod Meanwhile
 pub mod ClientReplies
 pub mod Ends
+pub mod SearcherReplies
