@@ -38,20 +38,49 @@ module _ {L : Type 0} where
   Tells told log jobs.Delete = ⊤
   Tells told log jobs.Collect = ⊤
 
-  -- an indexer's log is a later state of the one that it had, whatever it tells
+  -- the indexer came back, and its log is a later state of the one that it had, whatever it tells
   abbrev pub IsLaterLog : (L → L → Type 0) → Reader L → Done L → Type 0
   IsLaterLog since reader (done.Indexed last end) = since reader.log last.log
-  IsLaterLog since reader (done.Answered answered short) = ⊤
-  IsLaterLog since reader (done.Merged end) = ⊤
-  IsLaterLog since reader (done.Deleted end) = ⊤
-  IsLaterLog since reader (done.Collected end) = ⊤
+  IsLaterLog since reader (done.Answered answered short) = ⊥
+  IsLaterLog since reader (done.Merged end) = ⊥
+  IsLaterLog since reader (done.Deleted end) = ⊥
+  IsLaterLog since reader (done.Collected end) = ⊥
 
+  abbrev pub IsAnswered : Done L → Type 0
+  IsAnswered (done.Indexed last end) = ⊥
+  IsAnswered (done.Answered answered short) = ⊤
+  IsAnswered (done.Merged end) = ⊥
+  IsAnswered (done.Deleted end) = ⊥
+  IsAnswered (done.Collected end) = ⊥
+
+  abbrev pub IsMerged : Done L → Type 0
+  IsMerged (done.Indexed last end) = ⊥
+  IsMerged (done.Answered answered short) = ⊥
+  IsMerged (done.Merged end) = ⊤
+  IsMerged (done.Deleted end) = ⊥
+  IsMerged (done.Collected end) = ⊥
+
+  abbrev pub IsDeleted : Done L → Type 0
+  IsDeleted (done.Indexed last end) = ⊥
+  IsDeleted (done.Answered answered short) = ⊥
+  IsDeleted (done.Merged end) = ⊥
+  IsDeleted (done.Deleted end) = ⊤
+  IsDeleted (done.Collected end) = ⊥
+
+  abbrev pub IsCollected : Done L → Type 0
+  IsCollected (done.Indexed last end) = ⊥
+  IsCollected (done.Answered answered short) = ⊥
+  IsCollected (done.Merged end) = ⊥
+  IsCollected (done.Deleted end) = ⊥
+  IsCollected (done.Collected end) = ⊤
+
+  -- what came of a job is of its kind; of an indexer the log is a later state of the one that it had
   abbrev pub IsLater : (L → L → Type 0) → Job L → Done L → Type 0
   IsLater since (jobs.Index reader) result = IsLaterLog since reader result
-  IsLater since (jobs.Answer askings) result = ⊤
-  IsLater since jobs.Merge result = ⊤
-  IsLater since jobs.Delete result = ⊤
-  IsLater since jobs.Collect result = ⊤
+  IsLater since (jobs.Answer askings) result = IsAnswered result
+  IsLater since jobs.Merge result = IsMerged result
+  IsLater since jobs.Delete result = IsDeleted result
+  IsLater since jobs.Collect result = IsCollected result
 
   -- an indexer of the model that is idle
   abbrev pub fresh_of : (L → ℕ) → Reader L → Indexer

@@ -7,7 +7,7 @@ ghost use Rattle.index_world.specs.Ran.{Ran};
 ghost use Rattle.indexing_run.specs.Making.{IsAssigned};
 ghost use Rattle.indexing_run.specs.declared.indexer.IndexerPlace.TheVariants as places;
 ghost use Rattle.upkeep_run.specs.declared.work.Aim.TheVariants.{Deleting, Merging};
-ghost use Rattle.run_jobs.specs.Jobs.{AnsweredDid, CollectedDid, DeletedDid, IndexedDid, IsFresh, IsLater, JobDid, MergedDid, Tells};
+ghost use Rattle.run_jobs.specs.Jobs.{AnsweredDid, CollectedDid, DeletedDid, IndexedDid, IsAnswered, IsCollected, IsDeleted, IsFresh, IsLater, IsMerged, JobDid, MergedDid, Tells};
 
 use crate::clients::{Answered, serve_clients};
 use index_world::Gate;
@@ -64,6 +64,7 @@ fn answer<Rt: Threads + Sync, L: SourceLog, G: Gate, H: LeafHold>(
     hold: &H,
 ) -> Done<L>
     ensures later { G.since gate.old gate.new }
+    ensures kind { IsAnswered result }
     ensures ran { (core : Core) (log : Log) → IsLog log → G.Stands gate.old core log →
         Ran G.Stands G.Adds (λ made after. AnsweredDid G.Between log askings.items result core made after) core log gate.old gate.new }
 {
@@ -77,6 +78,7 @@ fn answer<Rt: Threads + Sync, L: SourceLog, G: Gate, H: LeafHold>(
 fn merge<L: SourceLog, G: Gate>(alloc: Global, gate: &mut G, turns: u64) -> Done<L>
     requires begun { (log : Log) → G.Begins gate.old log → IsLog log × ((core : Core) × G.Stands gate.old core log) }
     ensures later { G.since gate.old gate.new }
+    ensures kind { IsMerged result }
     ensures ran { (core : Core) (log : Log) → IsLog log → G.Stands gate.old core log →
         Ran G.Stands G.Adds (λ made after. MergedDid G.Between log turns result core made after) core log gate.old gate.new }
 {
@@ -87,6 +89,7 @@ fn merge<L: SourceLog, G: Gate>(alloc: Global, gate: &mut G, turns: u64) -> Done
 fn delete<L: SourceLog, G: Gate>(alloc: Global, gate: &mut G, turns: u64) -> Done<L>
     requires begun { (log : Log) → G.Begins gate.old log → IsLog log × ((core : Core) × G.Stands gate.old core log) }
     ensures later { G.since gate.old gate.new }
+    ensures kind { IsDeleted result }
     ensures ran { (core : Core) (log : Log) → IsLog log → G.Stands gate.old core log →
         Ran G.Stands G.Adds (λ made after. DeletedDid G.Between log turns result core made after) core log gate.old gate.new }
 {
@@ -96,6 +99,7 @@ fn delete<L: SourceLog, G: Gate>(alloc: Global, gate: &mut G, turns: u64) -> Don
 
 fn collect<L: SourceLog, G: Gate>(alloc: Global, gate: &mut G, turns: u64) -> Done<L>
     ensures later { G.since gate.old gate.new }
+    ensures kind { IsCollected result }
     ensures ran { (core : Core) (log : Log) → G.Stands gate.old core log →
         Ran G.Stands G.Adds (λ made after. CollectedDid G.Between turns result core made after) core log gate.old gate.new }
 {

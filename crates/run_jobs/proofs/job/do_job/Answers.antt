@@ -25,7 +25,7 @@ returns-in-Index-clause-ran g c core log is tells stands =
     (c.index.ensures.ran core log (subst (λ (job : Job g.row.L.Denot). Tells g.L.SourceLog.told log job) c.in-Index.is tells) stands)
 
 pub returns-in-Answer-clause-logs : goal.returns-in-Answer-clause-logs
-returns-in-Answer-clause-logs g c = subst (λ (job : Job g.row.L.Denot). IsLater g.L.SourceLog.since job c.answer.result) (sym c.in-Answer.is) tt
+returns-in-Answer-clause-logs g c = subst (λ (job : Job g.row.L.Denot). IsLater g.L.SourceLog.since job c.answer.result) (sym c.in-Answer.is) c.answer.ensures.kind
 
 pub returns-in-Answer-clause-ran : goal.returns-in-Answer-clause-ran
 returns-in-Answer-clause-ran g c core log is tells stands =
@@ -34,7 +34,7 @@ returns-in-Answer-clause-ran g c core log is tells stands =
     (c.answer.ensures.ran core log is stands)
 
 pub returns-in-Merge-clause-logs : goal.returns-in-Merge-clause-logs
-returns-in-Merge-clause-logs g c = subst (λ (job : Job g.row.L.Denot). IsLater g.L.SourceLog.since job c.merge.result) (sym c.in-Merge.is) tt
+returns-in-Merge-clause-logs g c = subst (λ (job : Job g.row.L.Denot). IsLater g.L.SourceLog.since job c.merge.result) (sym c.in-Merge.is) c.merge.ensures.kind
 
 pub returns-in-Merge-clause-ran : goal.returns-in-Merge-clause-ran
 returns-in-Merge-clause-ran g c core log is tells stands =
@@ -43,7 +43,7 @@ returns-in-Merge-clause-ran g c core log is tells stands =
     (c.merge.ensures.ran core log is stands)
 
 pub returns-in-Delete-clause-logs : goal.returns-in-Delete-clause-logs
-returns-in-Delete-clause-logs g c = subst (λ (job : Job g.row.L.Denot). IsLater g.L.SourceLog.since job c.delete.result) (sym c.in-Delete.is) tt
+returns-in-Delete-clause-logs g c = subst (λ (job : Job g.row.L.Denot). IsLater g.L.SourceLog.since job c.delete.result) (sym c.in-Delete.is) c.delete.ensures.kind
 
 pub returns-in-Delete-clause-ran : goal.returns-in-Delete-clause-ran
 returns-in-Delete-clause-ran g c core log is tells stands =
@@ -52,7 +52,7 @@ returns-in-Delete-clause-ran g c core log is tells stands =
     (c.delete.ensures.ran core log is stands)
 
 pub returns-in-Collect-clause-logs : goal.returns-in-Collect-clause-logs
-returns-in-Collect-clause-logs g c = subst (λ (job : Job g.row.L.Denot). IsLater g.L.SourceLog.since job c.collect.result) (sym c.in-Collect.is) tt
+returns-in-Collect-clause-logs g c = subst (λ (job : Job g.row.L.Denot). IsLater g.L.SourceLog.since job c.collect.result) (sym c.in-Collect.is) c.collect.ensures.kind
 
 pub returns-in-Collect-clause-ran : goal.returns-in-Collect-clause-ran
 returns-in-Collect-clause-ran g c core log is tells stands =
