@@ -14,3 +14,4 @@ pub mod OfferSteps
 pub mod CollectorSteps
 pub mod CollectorEnds
 pub mod Served
+pub mod JobSays

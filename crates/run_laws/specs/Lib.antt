@@ -2,3 +2,4 @@ pub mod Meanwhile
 pub mod ClientReplies
 pub mod Ends
 pub mod SearcherReplies
+pub mod JobSays

@@ -3,4 +3,4 @@
 
 mod laws;
 
-pub use laws::client_is_replied;
+pub use laws::{calls_are_seen, client_is_replied, job_says};
