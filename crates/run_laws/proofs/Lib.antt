@@ -15,3 +15,4 @@ pub mod CollectorSteps
 pub mod CollectorEnds
 pub mod Served
 pub mod JobSays
+pub mod Calmed

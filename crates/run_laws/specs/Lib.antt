@@ -3,3 +3,4 @@ pub mod ClientReplies
 pub mod Ends
 pub mod SearcherReplies
 pub mod JobSays
+pub mod Calm
