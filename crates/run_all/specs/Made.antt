@@ -1,9 +1,11 @@
 -- How a run went.
-use Rattle.std.specs.Prelude.{◌≡◌, ℕ, true, false, None, List, ◌++◌, length, map, Option}
+use Rattle.std.specs.Prelude.{◌≡◌, ℕ, true, false, None, List, ◌++◌, drop, length, map, take, Option}
 use Rattle.source_log.specs.Log.{Log}
 use Rattle.index_world.specs.World.{Keeping}
 use Rattle.shared_gate.specs.declared.recorded.Recorded.{Recorded}
 use Rattle.run_plan.specs.declared.clients.Request.{Request}
+use Rattle.run_sources.specs.Sources.{common}
+use Rattle.run_sources.specs.declared.sources.Sources.{Sources}
 use Rattle.run_jobs.specs.declared.job.Done.{Done}
 use Rattle.run_base.specs.Run.{IsRun}
 use Rattle.run_all.specs.Beginning.{AreBegun}
@@ -17,6 +19,7 @@ use Rattle.run_all.specs.declared.beginning.Begun.{Begun}
 use Rattle.run_all.specs.declared.outcome.Outcome.{Outcome}
 use Rattle.run_all.specs.declared.planning.Plan.{Plan}
 use Rattle.run_all.specs.declared.run_end.RunEnd.{RunEnd}
+use Rattle.run_all.specs.declared.run_end.RunOptions.{RunOptions}
 
 module _ {S K M L : Type 0} (tells : M → Option Log) (told : L → Option Log) (count : L → ℕ) (since : L → L → Type 0) where
   -- The jobs of these indexers and by this plan ran together, and what comes back is what came of them, with the logs that weren't read behind the
@@ -41,6 +44,15 @@ module _ {S K M L : Type 0} (tells : M → Option Log) (told : L → Option Log)
     pub plan : Plan
     pub planned : IsPlanned requests searchers plan
     pub worked : RunWorked searchers turns begun unused plan first end
+
+-- A run over this world that was begun: of these logs so many are read, the first ones. The shelf of the run began with the world, and its source are
+-- the logs that are read.
+pub record HasRun (K : Type 0) {S L : Type 0} (told : L → Option Log) (count : L → ℕ) (since : L → L → Type 0) (options : RunOptions) (world : Keeping) (logs : List L) (requests : List Request)
+    (end : RunEnd S L) : Type 0 where
+  pub first : Recorded S K (Sources L)
+  pub opened : first.opened.value ≡ world
+  pub source : first.source.value.logs.items ≡ take options.indexers logs
+  pub made : RunMade (λ (sources : Sources L). common told sources.logs.items) told count since options.searchers options.turns (take options.indexers logs) (drop options.indexers logs) requests first end
 
 -- it wasn't begun: there was no memory
 pub record NotBegun {S L : Type 0} (world : Keeping) (end : RunEnd S L) : Type 0 where

@@ -18,5 +18,5 @@ mod turning;
 pub use beginning::{Begun, indexers_of};
 pub use planning::{Plan, planned};
 pub use run_end::{ActorEnd, RunEnd, RunOptions, Settled};
-pub use running::run;
+pub use running::run_unsettled;
 pub use sharing::shared_out;

@@ -6,7 +6,7 @@ ghost use Rattle.source_log.specs.Log.{IsLog, Log};
 ghost use Rattle.shared_gate.specs.Recording.{IsStanding};
 ghost use Rattle.run_plan.specs.declared.clients.Request.{Request as Asked};
 ghost use Rattle.run_jobs.specs.Jobs.{IsFresh, Tells};
-ghost use Rattle.run_all.specs.Made.{NotBegun, RunMade, RunWorked};
+ghost use Rattle.run_all.specs.Made.{HasRun, NotBegun, RunMade, RunWorked};
 ghost use Rattle.run_all.specs.Planning.{IsPlanned};
 ghost use Rattle.run_all.specs.Room.{IsRoom};
 ghost use Rattle.run_all.specs.Staffing.{jobs_of, log_in};
@@ -166,8 +166,9 @@ fn together<
 }
 
 /// Runs indexers, searchers, a merger, a delete worker and a collector, each in a thread of its own, over one world. The partitions of the logs
-/// are shared out among the indexers, which read them up to their ends; the clients of the requests are shared out among the searchers.
-pub fn run<
+/// are shared out among the indexers, which read them up to their ends; the clients of the requests are shared out among the searchers. The
+/// index isn't settled.
+pub fn run_unsettled<
     R: Threads + Wait + Sync,
     S: ObjectStore + Send,
     K: Clock + Send,
@@ -186,6 +187,7 @@ pub fn run<
     requires indexers { (1 ≤ options.indexers) × (options.indexers ≤ 64) × (options.indexers ≤ length logs.items) }
     requires searchers { (1 ≤ options.searchers) × (options.searchers ≤ 64) }
     ensures logs { AllZip L.since logs.items result.logs.items }
+    ensures went { NotBegun world result ⊎ HasRun K L.told L.fault_count L.since options world logs.items requests.items result }
 {
     let count = logs.len();
     let Ok(plan) = planned(alloc, requests, options.searchers) else {

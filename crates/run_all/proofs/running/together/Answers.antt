@@ -39,8 +39,8 @@ returns-in-Ok-clause-logs g c =
     let t = g.L.SourceLog in
     let unused = c.args.unused.items in
     let first = zip_append t.since c.args.logs.items (map log_in c.in-Ok.begun.items) unused unused
-    (begun_later t.told t.fault_count t.since (length c.args.logs.items) 0 c.args.logs.items c.in-Ok.begun.items c.in-Ok.ensures.begun) (zip_itself t.since unused g.met.L.SourceLog.since_itself) in
-    zip_then t.since t.since t.since (c.args.logs.items ++ unused) (map log_in c.in-Ok.begun.items ++ unused) c.worked.result.logs.items g.met.L.SourceLog.since_then first c.worked.ensures.logs
+    (begun_later t.told t.fault_count t.since (length c.args.logs.items) 0 c.args.logs.items c.in-Ok.begun.items c.in-Ok.ensures.begun) (zip_itself t.since unused (g.met.L.SourceLog g.world.𝓛 g.world.𝓜 g.world.𝓡 ((λ s x. x), (λ x. x), (λ x. x), λ x. x)).since_itself) in
+    zip_then t.since t.since t.since (c.args.logs.items ++ unused) (map log_in c.in-Ok.begun.items ++ unused) c.worked.result.logs.items (g.met.L.SourceLog g.world.𝓛 g.world.𝓜 g.world.𝓡 ((λ s x. x), (λ x. x), (λ x. x), λ x. x)).since_then first c.worked.ensures.logs
 
 pub returns-in-Ok-clause-made : goal.returns-in-Ok-clause-made
 returns-in-Ok-clause-made g c requests planned = elim c.worked.ensures.made [
@@ -54,4 +54,4 @@ returns-in-Err-clause-logs g c =
     let same = ap (λ (l : Vec g.row.L.Denot Global). l.items) c.in-Err.ensures.back in
     let unused = c.args.unused.items in
     let is = ap (λ (l : Vec g.row.L.Denot Global). l.items) c.unbegun.ensures.logs ∙ (c.append_within-in-Err.ensures.items ∙ ap (λ l. l ++ unused) (c.append_within.ensures.items ∙ (ap (λ l. l ++ c.in-Err.logs.items) c.requires.room.no_logs ∙ same))) in
-    subst (λ l. AllZip t.since (c.args.logs.items ++ unused) l) (sym is) (zip_itself t.since (c.args.logs.items ++ unused) g.met.L.SourceLog.since_itself)
+    subst (λ l. AllZip t.since (c.args.logs.items ++ unused) l) (sym is) (zip_itself t.since (c.args.logs.items ++ unused) (g.met.L.SourceLog g.world.𝓛 g.world.𝓜 g.world.𝓡 ((λ s x. x), (λ x. x), (λ x. x), λ x. x)).since_itself)

@@ -71,7 +71,7 @@ returns-in-Ok-clause-logs g c =
     let since = g.L.SourceLog.since in
     let later = ran_later g.M.SourceLog.told g.L.SourceLog.told g.L.SourceLog.fault_count since c.args.options.turns c.args.shelf c.in-Ok.shelf c.jobs_of-jobs.result.0.items c.in-Ok.done.items c.in-Ok.ensures.ran in
     let zip = came_later since c.args.begun.items c.args.plan.shares.items c.jobs_of-jobs.result.0.items c.in-Ok.done.items c.outcome_of-outcome.result.indexed.items c.jobs_of-jobs.ensures.jobs later c.outcome_of-outcome.ensures.0 in
-    back_logs since g.met.L.SourceLog.since_itself c.args.begun.items c.jobs_of-jobs.result.1.items c.outcome_of-outcome.result.indexed.items c.args.unused.items c.closed.result.logs.items c.jobs_of-jobs.ensures.posts c.closed.ensures.logs zip
+    back_logs since (g.met.L.SourceLog g.world.𝓛 g.world.𝓜 g.world.𝓡 ((λ s x. x), (λ x. x), (λ x. x), λ x. x)).since_itself c.args.begun.items c.jobs_of-jobs.result.1.items c.outcome_of-outcome.result.indexed.items c.args.unused.items c.closed.result.logs.items c.jobs_of-jobs.ensures.posts c.closed.ensures.logs zip
 
 pub returns-in-Ok-clause-made : goal.returns-in-Ok-clause-made
 returns-in-Ok-clause-made g c =
@@ -111,7 +111,7 @@ pub ends_of-logs-requires-clause-as_many : goal.ends_of-logs-requires-clause-as_
 ends_of-logs-requires-clause-as_many g c =
     let since = g.L.SourceLog.since in
     let jobs_are = ap (λ (js : Vec (Job g.row.L.Denot) Global). js.items) c.in-Err.ensures.apart.1 ∙ c.jobs_of-jobs.ensures.jobs in
-    let zip = back_later since g.met.L.SourceLog.since_itself c.args.begun.items c.args.plan.shares.items c.in-Err.jobs.items c.given_back-indexed.result.items jobs_are c.given_back-indexed.ensures in
+    let zip = back_later since (g.met.L.SourceLog g.world.𝓛 g.world.𝓜 g.world.𝓡 ((λ s x. x), (λ x. x), (λ x. x), λ x. x)).since_itself c.args.begun.items c.args.plan.shares.items c.in-Err.field-0.jobs.items c.given_back-indexed.result.items jobs_are c.given_back-indexed.ensures in
     let works = work_is since c.args.begun.items c.jobs_of-jobs.result.1.items c.given_back-indexed.result.items c.jobs_of-jobs.ensures.posts zip in
     omega (arith, works)
 
@@ -119,6 +119,6 @@ pub returns-clause-logs : goal.returns-clause-logs
 returns-clause-logs g c =
     let since = g.L.SourceLog.since in
     let jobs_are = ap (λ (js : Vec (Job g.row.L.Denot) Global). js.items) c.in-Err.ensures.apart.1 ∙ c.jobs_of-jobs.ensures.jobs in
-    let zip = back_later since g.met.L.SourceLog.since_itself c.args.begun.items c.args.plan.shares.items c.in-Err.jobs.items c.given_back-indexed.result.items jobs_are c.given_back-indexed.ensures in
+    let zip = back_later since (g.met.L.SourceLog g.world.𝓛 g.world.𝓜 g.world.𝓡 ((λ s x. x), (λ x. x), (λ x. x), λ x. x)).since_itself c.args.begun.items c.args.plan.shares.items c.in-Err.field-0.jobs.items c.given_back-indexed.result.items jobs_are c.given_back-indexed.ensures in
     let logs_are = ap (λ (l : Vec g.row.L.Denot Global). l.items) c.unbegun.ensures.logs ∙ (c.append_within.ensures.items ∙ ap (λ l. l ++ c.args.unused.items) c.ends_of-logs.ensures.logs) in
-    back_logs since g.met.L.SourceLog.since_itself c.args.begun.items c.jobs_of-jobs.result.1.items c.given_back-indexed.result.items c.args.unused.items c.unbegun.result.logs.items c.jobs_of-jobs.ensures.posts logs_are zip
+    back_logs since (g.met.L.SourceLog g.world.𝓛 g.world.𝓜 g.world.𝓡 ((λ s x. x), (λ x. x), (λ x. x), λ x. x)).since_itself c.args.begun.items c.jobs_of-jobs.result.1.items c.given_back-indexed.result.items c.args.unused.items c.unbegun.result.logs.items c.jobs_of-jobs.ensures.posts logs_are zip

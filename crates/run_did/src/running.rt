@@ -1,0 +1,51 @@
+//! A run, and what it did in the words of the index.
+
+ghost use Rattle.std.specs.Prelude.{◌≡◌, ◌≤◌, Some, length, take};
+ghost use Rattle.std.specs.List.{AllByRecursion, AllZip};
+ghost use Rattle.index_config.specs.declared.config.IndexConfig.{IndexConfig as Configured};
+ghost use Rattle.source_log.specs.Log.{IsLog, Log};
+ghost use Rattle.index_world.specs.Core.{Core, IsConfigured};
+ghost use Rattle.index_world.specs.World.{WorldStands};
+ghost use Rattle.root_search.specs.Replied.{AsksTexts};
+ghost use Rattle.run_did.specs.RunAll.{RunDid};
+
+use clock_time::{Clock, ScriptClock};
+use index_world::World;
+use object_store::ObjectStore;
+use root_search::LeafHold;
+use run_all::{RunEnd, RunOptions, run_unsettled};
+use run_plan::Request;
+use source_log::SourceLog;
+use std::alloc::Global;
+use std::sync::Wait;
+use std::thread::Threads;
+
+/// Runs indexers, searchers, a merger, a delete worker and a collector, each in a thread of its own, over one world. The partitions of the logs
+/// are shared out among the indexers, which read them up to their ends; the clients of the requests are shared out among the searchers.
+pub fn run<
+    R: Threads + Wait + Sync,
+    S: ObjectStore + Send,
+    K: Clock + Send,
+    L: SourceLog + Send,
+    H: LeafHold,
+>(
+    rt: &R,
+    alloc: Global,
+    world: World<S, ScriptClock>,
+    clock: K,
+    logs: Vec<L>,
+    requests: Vec<Request>,
+    options: RunOptions,
+    hold: &H,
+) -> RunEnd<S, L>
+    requires indexers { (1 ≤ options.indexers) × (options.indexers ≤ 64) × (options.indexers ≤ length logs.items) }
+    requires searchers { (1 ≤ options.searchers) × (options.searchers ≤ 64) }
+    ensures logs { AllZip L.since logs.items result.logs.items }
+    ensures ran { (config : Configured) (core : Core) (log : Log) → IsLog log → WorldStands world core log → IsConfigured config core → AsksTexts config →
+        AllByRecursion (λ own. L.told own ≡ Some log) (take options.indexers logs.items) → RunDid L.fault_count options config log core logs.items requests.items result }
+{
+    let end = run_unsettled(rt, alloc, world, clock, logs, requests, options, hold);
+    // The count of a store has its range.
+    let _count = end.world.faults();
+    end
+}
