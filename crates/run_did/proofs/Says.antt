@@ -35,10 +35,10 @@ Says count config log core exit turns job result = (calls : ℕ) × JobSays coun
 
 module _ {S K M L : Type 0} (tells : M → Option Log) (told : L → Option Log) (count : L → ℕ) (since : L → L → Type 0) (turns : ℕ) (first last : Recorded S K M) (jobs : List (Job L)) (done : List (Done L))
     (ran : IsRun tells told count since turns first jobs last done) (log : Log) (core : Core) (so : tells first.source.value ≡ Some log) (stands : WorldStands first.opened.value core log) where
-  abbrev starts : Begun tells first.opened.value first.source.value log
+  abbrev pub starts : Begun tells first.opened.value first.source.value log
   starts = ((core, stands), so)
 
-  linked : IsLinked (Begun tells first.opened.value first.source.value) first.opened.value last.events.items
+  pub linked : IsLinked (Begun tells first.opened.value first.source.value) first.opened.value last.events.items
   linked =
       let P : Keeping → M → Type 0 = λ k s. IsLinked (Begun tells k s) k last.events.items in
       subst (λ (k : Keeping). P k first.source.value) ran.opened (subst (λ (s : M). P last.opened.value s) ran.source ran.standing.linked)
@@ -46,7 +46,7 @@ module _ {S K M L : Type 0} (tells : M → Option Log) (told : L → Option Log)
   world_is : last.world ≡ last_world first.opened.value last.events.items
   world_is = ran.standing.last ∙ ap (λ (k : Keeping). last_world k last.events.items) ran.opened
 
-  followed : Followed first.opened.value last.events.items core log
+  pub followed : Followed first.opened.value last.events.items core log
   followed = follow (Begun tells first.opened.value first.source.value) log starts first.opened.value last.events.items core linked stands
 
   -- where the calls led
