@@ -51,7 +51,7 @@ module _ (core : Core) where
     hindered_unfrozen : (error : WorldError) → IsHindered error (record core { frozen = true }) after → IsHindered error core after
     hindered_unfrozen (errors.StoreFault low high) h = h
     hindered_unfrozen errors.Full h = (had_unfrozen h.0, h.1)
-    hindered_unfrozen (errors.Expired planned_at now) h = (had_unfrozen h.0, h.1, h.2, h.3)
+    hindered_unfrozen (errors.Expired planned_at now) h = absurd h
     hindered_unfrozen (errors.Memory refused) h = absurd h
     hindered_unfrozen (errors.Refused refusal) h = absurd h
     hindered_unfrozen (errors.Missing key) h = absurd h

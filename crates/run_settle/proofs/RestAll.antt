@@ -69,7 +69,7 @@ module _ (start core : Core) (on : GoesFor Nobody start core) (u : IsUnasked sta
   hindered_from : (after : Core) (error : WorldError) → IsHindered error core after → IsHindered error start after
   hindered_from after (errors.StoreFault low high) h = let up = on.faults in let past = h.0 in (omega (arith, up, past), h.1, h.2)
   hindered_from after errors.Full h = (had_from after h.0, h.1)
-  hindered_from after (errors.Expired planned_at now) h = let up = on.moment in let past = h.1 in (had_from after h.0, omega (arith, up, past), h.2, h.3)
+  hindered_from after (errors.Expired planned_at now) h = absurd h
   hindered_from after (errors.Memory refused) h = absurd h
   hindered_from after (errors.Refused refusal) h = absurd h
   hindered_from after (errors.Missing key) h = absurd h

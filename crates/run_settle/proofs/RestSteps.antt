@@ -126,7 +126,7 @@ FetchDid grace start (Ok done) core = core.history ≡ start.history
 FetchDid grace start (Err (faulted (store_fault low high))) core = ⊤
 FetchDid grace start (Err (faulted (is_foreign key))) core = ⊥
 FetchDid grace start (Err (faulted is_full)) core = ⊥
-FetchDid grace start (Err (faulted (is_expired planned_at now))) core = (planned_at ≡ grace.planned_at) × (grace.until ≤ now) × (now ≡ core.moment)
+FetchDid grace start (Err (faulted (is_expired planned_at now))) core = (grace.until ≤ now) × (now ≡ core.moment) × (core.history ≡ start.history)
 FetchDid grace start (Err no_memory) core = ⊤
 
 module _ (grace : Grace) (fate : Fate) (start : Core) where
@@ -142,7 +142,7 @@ module _ (grace : Grace) (fate : Fate) (start : Core) where
   file_did false = got_did (may_fail fate.first start.store_faults) start.store_faults
 
   over_did : (b : Bool) → nat_le grace.until (asked_clock start).moment ≡ b → Fetches (unless_over b grace.planned_at (asked_clock start) (file_got fate.first (asked_clock start)))
-  over_did true e = (refl, leb-true grace.until (asked_clock start).moment e, refl)
+  over_did true e = (leb-true grace.until (asked_clock start).moment e, refl, refl)
   over_did false e = file_did fate.first.short
 
   fetched_did : Fetches (fetched grace fate start)
@@ -157,7 +157,7 @@ abbrev pub DidFetch : Work → (more : List Row) → (start : Core) → Option U
 DidFetch work more start None after core = ⊤
 DidFetch work more start (Some (Fetched number)) after core = (after ≡ fetching (record work { unfetched = more })) × (core.history ≡ start.history)
 DidFetch work more start (Some (Faulted (store_fault low high))) after core = ⊤
-DidFetch work more start (Some (Faulted (is_expired planned_at now))) after core = (planned_at ≡ work.moment) × (until_of work ≤ now) × (now ≡ core.moment)
+DidFetch work more start (Some (Faulted (is_expired planned_at now))) after core = (until_of work ≤ now) × (now ≡ core.moment) × (core.history ≡ start.history)
 DidFetch work more start (Some other) after core = ⊥
 
 fetch_did : (work : Work) (number : ℕ) (more : List Row) (start : Core) (r : Result ⊤ Trouble) (core : Core) → FetchDid (grace_in work) start r core →

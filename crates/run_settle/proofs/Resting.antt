@@ -12,7 +12,7 @@ use Rattle.meta_store.specs.History.{history, last_opstamp}
 use Rattle.meta_store.specs.Readings.{config_of}
 use Rattle.meta_store.specs.Rows.{rows}
 use Rattle.meta_store.specs.declared.refusal.Refusal.{Refusal}
-use Rattle.source_log.specs.Log.{Log}
+use Rattle.source_log.specs.Log.{IsLog, Log}
 use Rattle.split_states.specs.Rows.{is_published, row_at}
 use Rattle.split_states.specs.Answers.{IsIn}
 use Rattle.split_states.specs.declared.rows.Row.{Row}
@@ -21,8 +21,8 @@ use Rattle.split_states.specs.declared.rows.RowState.TheVariants.{Marked, Publis
 use Rattle.index_world.specs.Calls.{Fault, Trouble, faulted, no_memory, is_expired, is_foreign, is_full}
 use Rattle.index_world.specs.CallsMade.{CallMade, made_of}
 use Rattle.index_world.specs.Config.{reads}
-use Rattle.index_world.specs.Configuration.{config_or, configuration}
-use Rattle.index_world.specs.Core.{Core, IsOther, Nobody, last_count}
+use Rattle.index_world.specs.Configuration.{configuration}
+use Rattle.index_world.specs.Core.{Core, IsOther, Nobody, journal_of, last_count}
 use Rattle.index_world.specs.DirectLaws.{none_goes, stays_as_is}
 use Rattle.index_world.specs.Gate.{IsSoundCore, IsTrouble, NoneBetween}
 use Rattle.index_world.specs.Index.{max_entries}
@@ -30,12 +30,14 @@ use Rattle.index_world.specs.Ran.{IsCause, IsCaused, StepMade, Works, calls_of}
 use Rattle.index_world.specs.World.{GoesFor, GoesOn, Keeping, WorldStands}
 use Rattle.index_world.specs.declared.world_error.WorldError.{WorldError}
 use Rattle.index_world.specs.declared.world_error.WorldError.TheVariants as errors
+use Rattle.index_config.proofs.Ranges.{accepted-ranges}
+use Rattle.index_world.proofs.Configured.{configured_read}
 use Rattle.index_world.proofs.InCore.{goes_less}
 use Rattle.index_world.proofs.Ran.{goes_then}
 use Rattle.upkeep_run.proofs.Holding.{sound_legal}
 use Rattle.upkeep_run.proofs.Losing.{raise_lost}
 use Rattle.upkeep_run.proofs.PlannedRows.{delete_rows}
-use Rattle.upkeep_run.proofs.Planning.{config_is, plan_is_work}
+use Rattle.upkeep_run.proofs.Planning.{plan_is_work}
 use Rattle.upkeep_run.proofs.Works.{did_of}
 use Rattle.upkeep_run.specs.Asking.{ask_of}
 use Rattle.upkeep_run.specs.Ending.{Told}
@@ -82,7 +84,7 @@ IsThere Deleting work core = CanRaise (rows (history core.history)) (first_numbe
 -- What is known behind so many steps from a core on. Only before the first one there may have been nothing to do.
 abbrev pub Since : Aim → (start : Core) → (turns : ℕ) → WorkerPlace → Core → Type 0
 Since aim start turns idle core = ((turns ≡ 0) × (core ≡ start)) ⊎ ((0 < turns) × HadWork start core)
-Since aim start turns (fetching work) core = HadWork start core × (start.moment ≤ work.moment) × IsThere aim work core
+Since aim start turns (fetching work) core = HadWork start core × (work.moment ≡ core.moment) × IsThere aim work core
 Since aim start turns (staged held) core = HadWork start core
 Since aim start turns (uploaded held) core = HadWork start core
 
@@ -116,7 +118,7 @@ none_yet aim start log held world is frozen s =
 
 -- ---- there was something to do
 
-had_on : (start core behind : Core) (more : List Entry) → behind.history ≡ core.history ++ more → HadWork start core → HadWork start behind
+pub had_on : (start core behind : Core) (more : List Entry) → behind.history ≡ core.history ++ more → HadWork start core → HadWork start behind
 had_on start core behind more grown h =
     record {
       more = h.more;
@@ -206,7 +208,7 @@ told_goes (Err refused) outcome e a = absurd cc
 -- ---- a step that found something to do
 
 module _ (aim : Aim) (log : Log) (start core behind : Core) (turns : ℕ) (more : List Entry) (grown : behind.history ≡ core.history ++ more) (s : IsSoundCore behind log)
-    (later : start.moment ≤ behind.moment) (now : (rows_in aim behind ≡ [] → ⊥) → HadWork start behind) where
+    (steady : behind.history ≡ core.history → behind.moment ≡ core.moment) (now : (rows_in aim behind ≡ [] → ⊥) → HadWork start behind) where
   abbrev count : ℕ
   count = 104 * length start.history + turns
 
@@ -235,7 +237,7 @@ module _ (aim : Aim) (log : Log) (start core behind : Core) (turns : ℕ) (more 
   planned_on after reached e some =
       let few : length (rows_in aim behind) ≤ 100 = (plan_is_work behind log s aim).few in
       let up = longer in
-      on_to after (fetching (work_in aim log behind)) e (omega (arith, reached, few, up), (now some, later, plan_there behind log s aim some))
+      on_to after (fetching (work_in aim log behind)) e (omega (arith, reached, few, up), (now some, refl, plan_there behind log s aim some))
 
   -- a file was fetched
   fetched_on : (work : Work) (row : Row) (rest : List Row) (after : WorkerPlace) → work.unfetched ≡ row ∷ rest → IsReached count (fetching work) (length core.history) → Since aim start turns (fetching work) core →
@@ -243,7 +245,7 @@ module _ (aim : Aim) (log : Log) (start core behind : Core) (turns : ℕ) (more 
   fetched_on work row rest after unfetched reached since e same =
       let as_long : length behind.history ≡ length core.history = ap (λ (es : List Entry). length es) same in
       let left : length work.unfetched ≡ length rest + 1 = ap (λ (rs : List Row). length rs) unfetched ∙ longer_rest in
-      on_to after (fetching (record work { unfetched = rest })) e (omega (arith, reached, left, as_long), (had_later since.0, since.1, there_later work rest same since.2))
+      on_to after (fetching (record work { unfetched = rest })) e (omega (arith, reached, left, as_long), (had_later since.0, since.1 ∙ sym (steady same), there_later work rest same since.2))
     where
       longer_rest : length (row ∷ rest) ≡ length rest + 1
       longer_rest = omega arith
@@ -372,6 +374,10 @@ lost_longer log core behind (entry ∷ more) grown work there lost =
     let long : length behind.history ≡ length core.history + length (entry ∷ more) = ap (λ (es : List Entry). length es) grown ∙ length-append core.history (entry ∷ more) in
     omega (arith, long)
 
+-- the deletion grace of an index is a second at least
+least_grace : (entries : List Entry) (config : IndexConfig) → configuration entries ≡ Some config → 1 ≤ config.deletion_grace
+least_grace entries config e = let r = configured_read entries config e in (accepted-ranges r.0 config r.1).deletion_grace.0
+
 -- ---- a step
 
 module _ (aim : Aim) (start : Core) (log : Log) (turns : ℕ) (held : HeldPlace) (world : Keeping) (g : Going aim start log turns held world)
@@ -389,6 +395,10 @@ module _ (aim : Aim) (start : Core) (log : Log) (turns : ℕ) (held : HeldPlace)
   now_unasked =
       let P : Stepped → Type 0 = λ step. IsUnasked start.moment step.core in
       subst P w.did (worker_keeps start.moment w.luck log g.core g.unasked aim g.place)
+
+  -- without an entry the moment stays
+  steady_here : w.behind.history ≡ g.core.history → w.behind.moment ≡ g.core.moment
+  steady_here same = now_unasked.moment_is ∙ ap (moment_behind start.moment) same ∙ sym g.unasked.moment_is
 
   low : AreLow (length g.core.history) g.core
   low = called_low g.core.history g.core.late g.world_stands.world.stands_for.called
@@ -425,7 +435,7 @@ module _ (aim : Aim) (start : Core) (log : Log) (turns : ℕ) (held : HeldPlace)
 
   pub goes_further : went_on told ≡ Ok true → Going aim start log (turns + 1) kept new
   goes_further e =
-      let on = place_on aim log start g.core w.behind turns others_on.grown.0 others_on.grown.1 now_sound start_on.moment (had_now aim start w.behind log now_sound now_unasked start_on.grown.0 start_on.grown.1) g.place g.reached g.since
+      let on = place_on aim log start g.core w.behind turns others_on.grown.0 others_on.grown.1 now_sound steady_here (had_now aim start w.behind log now_sound now_unasked start_on.grown.0 start_on.grown.1) g.place g.reached g.since
       w.outcome w.after (λ work at there number refusal o unfetched lost. raise_longer aim refl work at there number refusal o unfetched lost) (told_goes told w.outcome e w.answer) did_step in
       let reached = on.0 in
       record {
@@ -559,22 +569,22 @@ module _ (aim : Aim) (start : Core) (log : Log) (turns : ℕ) (held : HeldPlace)
   full_by (uploaded h) since d = (had_before since, d)
 
   module _ (planned_at now : ℕ) where
-    late_work : (work : Work) (list : List Row) (after : WorkerPlace) → g.place ≡ fetching work → HadWork start g.core → start.moment ≤ work.moment → DidWork aim work list g.core (Some (Faulted (is_expired planned_at now))) after w.behind →
-        IsHindered (errors.Expired planned_at now) start w.behind
-    late_work work [] after at had later d = absurd d
-    late_work work (row ∷ more) after at had later d =
+    -- no plan is over
+    late_work : (work : Work) (list : List Row) (after : WorkerPlace) → g.place ≡ fetching work → work.moment ≡ g.core.moment → DidWork aim work list g.core (Some (Faulted (is_expired planned_at now))) after w.behind → ⊥
+    late_work work [] after at same d = d
+    late_work work (row ∷ more) after at same d =
         let known = work_known aim log g.core held work (subst (PlaceStands aim log g.core held) at g.stands) in
-        let config : config_or (configuration w.behind.history) ≡ work.config = config_is w.behind log work.config now_sound (others_on.keeps.configured work.config known.configured) in
-        let grace = ap (λ (c : IndexConfig). c.deletion_grace) config in
-        let same = d.0 in
-        let over = d.1 in
-        (had_before had, omega (arith, later, same), omega (arith, grace, same, over), d.2)
+        let grace = least_grace (journal_of g.core) work.config known.configured in
+        let over = d.0 in
+        let here = d.1 in
+        let still = steady_here d.2 in
+        omega (arith, same, grace, over, here, still)
 
-    late_by : (place : WorkerPlace) → g.place ≡ place → Since aim start turns place g.core → Did aim log place g.core (Some (Faulted (is_expired planned_at now))) w.after w.behind → IsHindered (errors.Expired planned_at now) start w.behind
-    late_by idle at since d = absurd d
-    late_by (fetching work) at since d = late_work work work.unfetched w.after at since.0 since.1 d
-    late_by (staged h) at since d = absurd d
-    late_by (uploaded h) at since d = absurd d
+    late_never : (place : WorkerPlace) → g.place ≡ place → Since aim start turns place g.core → Did aim log place g.core (Some (Faulted (is_expired planned_at now))) w.after w.behind → ⊥
+    late_never idle at since d = d
+    late_never (fetching work) at since d = late_work work work.unfetched w.after at since.1 d
+    late_never (staged h) at since d = d
+    late_never (uploaded h) at since d = d
 
   did_fault : (fault : Fault) → w.outcome ≡ Some (Faulted fault) → Did aim log g.place g.core (Some (Faulted fault)) w.after w.behind
   did_fault fault e = subst (λ (o : Option UpkeepOutcome). Did aim log g.place g.core o w.after w.behind) e did_step
@@ -598,7 +608,7 @@ module _ (aim : Aim) (start : Core) (log : Log) (turns : ℕ) (held : HeldPlace)
       by (errors.Foreign key) e f = foreign_never key g.place (did_fault (is_foreign key) (f.1 ∙ ap (λ x. Some (Faulted x)) (same_fault f.0 (is_foreign key) f.2)))
       by errors.Full e f = full_by g.place g.since (did_fault is_full (f.1 ∙ ap (λ x. Some (Faulted x)) (same_fault f.0 is_full f.2)))
       by (errors.Expired planned_at now) e f =
-          late_by planned_at now g.place refl g.since (did_fault (is_expired planned_at now) (f.1 ∙ ap (λ x. Some (Faulted x)) (same_fault f.0 (is_expired planned_at now) f.2)))
+          late_never planned_at now g.place refl g.since (did_fault (is_expired planned_at now) (f.1 ∙ ap (λ x. Some (Faulted x)) (same_fault f.0 (is_expired planned_at now) f.2)))
       by errors.NoIndex e f = absurd f.2
       by errors.IndexExists e f = absurd f.2
       by (errors.BadConfig bad) e f = absurd f.2
@@ -642,3 +652,13 @@ filled aim start core turns many (uploaded held) reached since = (since, omega (
 pub fills : (aim : Aim) (start : Core) (log : Log) (turns : ℕ) (held : HeldPlace) (world : Keeping) → 1040000000 ≤ turns → Going aim start log turns held world → Rests aim (Err (stops.Fault errors.Full)) start log world
 fills aim start log turns held world many g =
     record { after = g.core; goes_on = g.goes_on; stands = g.world_stands; unasked = g.unasked; ended = filled aim start g.core turns many g.place g.reached g.since }
+
+-- ---- a step of a worker of the code
+
+-- as one of the aim that it has
+pub works_for : (aim other : Aim) → other ≡ aim → (start : Core) (log : Log) (turns : ℕ) (held : HeldPlace) (world : Keeping) (told : Told) (kept : HeldPlace) (new : Keeping) → IsLog log →
+    ((place : WorkerPlace) (core : Core) (read : Log) → IsLog read → PlaceStands other read core held place → WorldStands world core read → WorksAlone other told place core read kept new) →
+    (g : Going aim start log turns held world) → WorksAlone aim told g.place g.core log kept new
+works_for aim other same start log turns held world told kept new is step g =
+    subst (λ (a : Aim). WorksAlone a told g.place g.core log kept new) same
+    (step g.place g.core log is (subst (λ (a : Aim). PlaceStands a log g.core held g.place) (sym same) g.stands) g.world_stands)

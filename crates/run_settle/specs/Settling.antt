@@ -1,5 +1,5 @@
 -- What settling an index leaves: no task to apply, and no rows to merge.
-use Rattle.std.specs.Prelude.{◌≡◌, ℕ, ◌+◌, ◌≤◌, max, true, false, List, ◌++◌, length, Option, None, Result, Ok, Err, ⊤}
+use Rattle.std.specs.Prelude.{◌≡◌, ℕ, ◌≤◌, max, true, false, List, ◌++◌, length, Option, None, Result, Ok, Err, ⊤}
 use Rattle.std.specs.List.{AllByRecursion}
 use Rattle.std.specs.declared.alloc.AllocError.{AllocError}
 use Rattle.index_config.specs.declared.config.IndexConfig.{IndexConfig}
@@ -63,13 +63,12 @@ pub record HadWork (core after : Core) : Type 0 where
 abbrev pub IsCrowded : List Entry → Refusal → Type 0
 IsCrowded entries refusal = (100000 ≤ length (rows (history entries))) × (refusal ≡ TooManyRows (length (rows (history entries))))
 
--- A call failed: the store's count rose; there was something to do and the journal is full; or there was, and the deletion grace of the index
--- passed behind a plan, since an entry came with a later moment. There are no other faults.
+-- A call failed: the store's count rose, or there was something to do and the journal is full. There are no other faults: nobody else acts, and no
+-- plan is over, since its moment stays while its files are fetched.
 abbrev pub IsHindered : WorldError → (core after : Core) → Type 0
 IsHindered (errors.StoreFault before now) core after = IsCause before now core after
 IsHindered errors.Full core after = HadWork core after × (max_entries ≤ length after.history)
-IsHindered (errors.Expired planned_at now) core after =
-    HadWork core after × (core.moment ≤ planned_at) × (planned_at + (config_or (configuration after.history)).deletion_grace ≤ now) × (now ≡ after.moment)
+IsHindered (errors.Expired planned_at now) core after = ⊥
 IsHindered (errors.Memory refused) core after = ⊥
 IsHindered (errors.Refused refusal) core after = ⊥
 IsHindered (errors.Missing key) core after = ⊥
