@@ -68,4 +68,4 @@ module _ (core : Core) where
     settled_by (Err (stops.Memory refused)) r = tt
 
   pub settles_of : (end : Result (Unit {0}) Stop) (log : Log) (new : Keeping) → RestsAll end (record core { frozen = true }) log new → Settles (settled_of end) core log new
-  settles_of end log new r = record { after = r.after; goes_on = goes_unfrozen r.after r.goes_on; stands = r.stands; unasked = r.unasked; ended = settled_by r.after end r.ended }
+  settles_of end log new r = record { after = r.after; works = r.works; goes_on = goes_unfrozen r.after r.goes_on; stands = r.stands; unasked = r.unasked; ended = settled_by r.after end r.ended }

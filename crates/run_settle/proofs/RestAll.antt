@@ -12,13 +12,14 @@ use Rattle.index_world.specs.DirectLaws.{stays_as_is}
 use Rattle.index_world.specs.World.{GoesFor, Keeping, WorldStands}
 use Rattle.index_world.specs.declared.world_error.WorldError.{WorldError}
 use Rattle.index_world.specs.declared.world_error.WorldError.TheVariants as errors
-use Rattle.index_world.proofs.Ran.{goes_then}
+use Rattle.index_world.proofs.Ran.{goes_then, steps_more}
+use Rattle.index_world.specs.Ran.{AreSteps}
 use Rattle.upkeep_run.proofs.Holding.{sound_legal}
 use Rattle.upkeep_run.specs.Steps.{rows_in}
 use Rattle.upkeep_run.specs.declared.work.Aim.{Aim}
 use Rattle.upkeep_run.specs.declared.work.Aim.TheVariants.{Deleting, Merging}
 use Rattle.run_settle.specs.Resting.{HasRested, IsStop, Rests, RestsAll, RestsBy, Worked}
-use Rattle.run_settle.specs.Settling.{HadWork, IsAtRest, IsHindered, IsUnasked, moment_behind}
+use Rattle.run_settle.specs.Settling.{AreTurns, HadWork, IsAtRest, IsHindered, IsUnasked, WorksByTurns, WorksFrom, moment_behind}
 use Rattle.run_settle.specs.declared.settling.Stop.{Stop}
 use Rattle.run_settle.specs.declared.settling.Stop.TheVariants as stops
 use Rattle.run_settle.proofs.AtRest.{at_rest}
@@ -84,12 +85,45 @@ module _ (start core : Core) (on : GoesFor Nobody start core) (u : IsUnasked sta
   stop_from after (stops.Fault error) h = hindered_from after error h
   stop_from after (stops.Memory refused) h = tt
 
+-- ---- a delete worker and a merger by turns
+
+-- whole rounds of both
+abbrev AreWhole : List Aim → Type 0
+AreWhole [] = ⊤
+AreWhole (aim ∷ []) = ⊥
+AreWhole (aim ∷ next ∷ more) = (aim ≡ Deleting) × (next ≡ Merging) × AreWhole more
+
+whole_turns : (aims : List Aim) → AreWhole aims → AreTurns aims
+whole_turns [] w = tt
+whole_turns (aim ∷ []) w = absurd w
+whole_turns (aim ∷ next ∷ more) w = (w.0, w.1, whole_turns more w.2)
+
+one_turn : (aims : List Aim) → AreWhole aims → AreTurns (aims ++ Deleting ∷ [])
+one_turn [] w = refl
+one_turn (aim ∷ []) w = absurd w
+one_turn (aim ∷ next ∷ more) w = (w.0, w.1, one_turn more w.2)
+
+both_turns : (aims : List Aim) → AreWhole aims → AreWhole ((aims ++ Deleting ∷ []) ++ Merging ∷ [])
+both_turns [] w = (refl, refl, tt)
+both_turns (aim ∷ []) w = absurd w
+both_turns (aim ∷ next ∷ more) w = (w.0, w.1, both_turns more w.2)
+
+module _ (log : Log) where
+  abbrev pub ByTurns : Core → List Aim → Core → Type 0
+  ByTurns core aims after = AreSteps (λ from aim to. WorksFrom aim log from to) core aims after
+
+  by_more : (core mid after : Core) (aims : List Aim) (aim : Aim) → ByTurns core aims mid → WorksFrom aim log mid after → ByTurns core (aims ++ aim ∷ []) after
+  by_more core mid after aims aim are works = steps_more (λ from a to. WorksFrom a log from to) core mid after aims aim are works
+
 -- ---- rounds
 
 -- so many rounds from a core on, in each of which there was something to do
 pub record Rounds (start : Core) (log : Log) (rounds : ℕ) (world : Keeping) : Type 0 where
   pub core : Core
   pub stands : WorldStands world core log
+  pub aims : List Aim
+  pub whole : AreWhole aims
+  pub are : ByTurns log start aims core
   pub goes_on : GoesFor Nobody start core
   pub unasked : IsUnasked start.moment core
   pub longer : length start.history + rounds ≤ length core.history
@@ -101,6 +135,9 @@ no_round start log world frozen s =
     record {
       core = start;
       stands = s;
+      aims = [];
+      whole = tt;
+      are = refl;
       goes_on = stays_as_is Nobody start;
       unasked = record { frozen = frozen; moment_is = omega (arith, greatest) };
       longer = omega arith;
@@ -112,6 +149,7 @@ module _ (start : Core) (log : Log) (rounds : ℕ) (world : Keeping) (r : Rounds
   deleting_stops stop new d =
       record {
         after = d.after;
+        works = record { aims = r.aims ++ Deleting ∷ []; turns = one_turn r.aims r.whole; are = by_more log start r.core d.after r.aims Deleting r.are d.works };
         goes_on = goes_then start r.core d.after r.goes_on d.goes_on;
         stands = d.stands;
         unasked = unasked_from start r.core r.goes_on r.unasked d.after d.goes_on d.unasked;
@@ -122,6 +160,15 @@ module _ (start : Core) (log : Log) (rounds : ℕ) (world : Keeping) (r : Rounds
     mid_on : GoesFor Nobody start d.after
     mid_on = goes_then start r.core d.after r.goes_on d.goes_on
 
+    mid_are : ByTurns log start (r.aims ++ Deleting ∷ []) d.after
+    mid_are = by_more log start r.core d.after r.aims Deleting r.are d.works
+
+    both_are : (m : Core) → WorksFrom Merging log d.after m → ByTurns log start ((r.aims ++ Deleting ∷ []) ++ Merging ∷ []) m
+    both_are m works = by_more log start d.after m (r.aims ++ Deleting ∷ []) Merging mid_are works
+
+    both_work : (m : Core) → WorksFrom Merging log d.after m → WorksByTurns log start m
+    both_work m works = record { aims = (r.aims ++ Deleting ∷ []) ++ Merging ∷ []; turns = whole_turns ((r.aims ++ Deleting ∷ []) ++ Merging ∷ []) (both_turns r.aims r.whole); are = both_are m works }
+
     pub mid_unasked : IsUnasked start.moment d.after
     mid_unasked = unasked_from start r.core r.goes_on r.unasked d.after d.goes_on d.unasked
 
@@ -129,6 +176,7 @@ module _ (start : Core) (log : Log) (rounds : ℕ) (world : Keeping) (r : Rounds
     merging_stops stop new m =
         record {
           after = m.after;
+          works = both_work m.after m.works;
           goes_on = goes_then start d.after m.after mid_on m.goes_on;
           stands = m.stands;
           unasked = unasked_from start d.after mid_on mid_unasked m.after m.goes_on m.unasked;
@@ -149,6 +197,7 @@ module _ (start : Core) (log : Log) (rounds : ℕ) (world : Keeping) (r : Rounds
           let s = sound_core new m.after log m.stands in
           record {
             after = m.after;
+            works = both_work m.after m.works;
             goes_on = last_on;
             stands = m.stands;
             unasked = last_unasked;
@@ -166,6 +215,9 @@ module _ (start : Core) (log : Log) (rounds : ℕ) (world : Keeping) (r : Rounds
           record {
             core = m.after;
             stands = m.stands;
+            aims = (r.aims ++ Deleting ∷ []) ++ Merging ∷ [];
+            whole = both_turns r.aims r.whole;
+            are = both_are m.after m.works;
             goes_on = last_on;
             unasked = last_unasked;
             longer = omega (arith, was, more, up);
@@ -180,6 +232,9 @@ module _ (start : Core) (log : Log) (rounds : ℕ) (world : Keeping) (r : Rounds
           record {
             core = m.after;
             stands = m.stands;
+            aims = (r.aims ++ Deleting ∷ []) ++ Merging ∷ [];
+            whole = both_turns r.aims r.whole;
+            are = both_are m.after m.works;
             goes_on = last_on;
             unasked = last_unasked;
             longer = omega (arith, was, more, up);
@@ -194,7 +249,7 @@ module _ (start : Core) (log : Log) (rounds : ℕ) (world : Keeping) (r : Rounds
   pub rounds_fill : 10000000 ≤ rounds → RestsAll (Err (stops.Fault errors.Full)) start log world
   rounds_fill many =
       let long = r.longer in
-      record { after = r.core; goes_on = r.goes_on; stands = r.stands; unasked = r.unasked; ended = (had_some r.had, omega (arith, many, long)) }
+      record { after = r.core; works = record { aims = r.aims; turns = whole_turns r.aims r.whole; are = r.are }; goes_on = r.goes_on; stands = r.stands; unasked = r.unasked; ended = (had_some r.had, omega (arith, many, long)) }
     where
       had_some : (rounds ≡ 0) ⊎ HadWork start r.core → HadWork start r.core
       had_some (inl none) = absurd (omega (arith, many, none))

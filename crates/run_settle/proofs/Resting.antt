@@ -26,14 +26,14 @@ use Rattle.index_world.specs.Core.{Core, IsOther, Nobody, journal_of, last_count
 use Rattle.index_world.specs.DirectLaws.{none_goes, stays_as_is}
 use Rattle.index_world.specs.Gate.{IsSoundCore, IsTrouble, NoneBetween}
 use Rattle.index_world.specs.Index.{max_entries}
-use Rattle.index_world.specs.Ran.{IsCause, IsCaused, StepMade, Works, calls_of}
+use Rattle.index_world.specs.Ran.{AreSteps, IsCaused, StepMade, Works, calls_of}
 use Rattle.index_world.specs.World.{GoesFor, GoesOn, Keeping, WorldStands}
 use Rattle.index_world.specs.declared.world_error.WorldError.{WorldError}
 use Rattle.index_world.specs.declared.world_error.WorldError.TheVariants as errors
 use Rattle.index_config.proofs.Ranges.{accepted-ranges}
 use Rattle.index_world.proofs.Configured.{configured_read}
 use Rattle.index_world.proofs.InCore.{goes_less}
-use Rattle.index_world.proofs.Ran.{goes_then}
+use Rattle.index_world.proofs.Ran.{goes_then, steps_more}
 use Rattle.upkeep_run.proofs.Holding.{sound_legal}
 use Rattle.upkeep_run.proofs.Losing.{raise_lost}
 use Rattle.upkeep_run.proofs.PlannedRows.{delete_rows}
@@ -59,7 +59,7 @@ use Rattle.node_run.specs.Alone.{WorksAlone}
 use Rattle.node_run.proofs.CallTells.{AreLow, called_low}
 use Rattle.node_run.proofs.WorkerTells.{worker_free}
 use Rattle.run_settle.specs.Resting.{HasRested, IsIdle, IsStop, Rests, Worked, went_on}
-use Rattle.run_settle.specs.Settling.{HadWork, IsAtRest, IsCrowded, IsHindered, IsUnasked, moment_behind}
+use Rattle.run_settle.specs.Settling.{HadWork, IsAtRest, IsCrowded, IsHindered, IsUnasked, WorksFrom, moment_behind}
 use Rattle.run_settle.specs.declared.settling.Stop.{Stop}
 use Rattle.run_settle.specs.declared.settling.Stop.TheVariants as stops
 use Rattle.run_settle.proofs.AtRest.{rests_none}
@@ -94,6 +94,8 @@ pub record Going (aim : Aim) (start : Core) (log : Log) (turns : ℕ) (held : He
   pub core : Core
   pub stands : PlaceStands aim log core held place
   pub world_stands : WorldStands world core log
+  pub steps : List (StepMade Told)
+  pub are : AreSteps (WorkerStep NoneBetween aim log) (worker_at idle start) steps (worker_at place core)
   pub goes_on : GoesFor Nobody start core
   pub unasked : IsUnasked start.moment core
   pub reached : IsReached (104 * length start.history + turns) place (length core.history)
@@ -110,6 +112,8 @@ none_yet aim start log held world is frozen s =
       core = start;
       stands = subst (λ h. PlaceStands aim log start h idle) (sym is) refl;
       world_stands = s;
+      steps = [];
+      are = refl;
       goes_on = stays_as_is Nobody start;
       unasked = record { frozen = frozen; moment_is = omega (arith, greatest) };
       reached = omega arith;
@@ -388,6 +392,18 @@ module _ (aim : Aim) (start : Core) (log : Log) (turns : ℕ) (held : HeldPlace)
   start_on : GoesFor Nobody start w.behind
   start_on = goes_then start g.core w.behind g.goes_on others_on
 
+  abbrev this : StepMade Told
+  this = record { result = told; made = made_of (ask_of aim g.place g.core) w.behind ∷ [] }
+
+  is_step : WorkerStep NoneBetween aim log (worker_at g.place g.core) this (worker_at w.after w.behind)
+  is_step = record { mid = g.core; passed = refl; luck = w.luck; outcome = w.outcome; did = w.did; answer = w.answer; recorded = inl refl; goes_on = others_on }
+
+  are_steps : AreSteps (WorkerStep NoneBetween aim log) (worker_at idle start) (g.steps ++ this ∷ []) (worker_at w.after w.behind)
+  are_steps = steps_more (WorkerStep NoneBetween aim log) (worker_at idle start) (worker_at g.place g.core) (worker_at w.after w.behind) g.steps this g.are is_step
+
+  work_done : WorksFrom aim log start w.behind
+  work_done = record { steps = g.steps ++ this ∷ []; place = w.after; are = are_steps }
+
   now_sound : IsSoundCore w.behind log
   now_sound = sound_core new w.behind log w.world_stands
 
@@ -443,6 +459,8 @@ module _ (aim : Aim) (start : Core) (log : Log) (turns : ℕ) (held : HeldPlace)
         core = w.behind;
         stands = w.stands;
         world_stands = w.world_stands;
+        steps = g.steps ++ this ∷ [];
+        are = are_steps;
         goes_on = start_on;
         unasked = now_unasked;
         reached = subst (λ (n : ℕ). IsReached n w.after (length w.behind.history)) (omega arith) on.0;
@@ -498,6 +516,7 @@ module _ (aim : Aim) (start : Core) (log : Log) (turns : ℕ) (held : HeldPlace)
   rests_here e =
       record {
         after = w.behind;
+        works = work_done;
         goes_on = start_on;
         stands = w.world_stands;
         unasked = now_unasked;
@@ -523,21 +542,18 @@ module _ (aim : Aim) (start : Core) (log : Log) (turns : ℕ) (held : HeldPlace)
 
   -- the cause of a fault of the store
   caused : (error : WorldError) → told ≡ Ok (said.Fault error) → g.core.store_faults ≤ last_count → IsCaused error g.core w.behind
-  caused error e within = (did_of NoneBetween aim log none_goes 1 kept g.place g.core (calls_of (step ∷ [])) w.behind (ends.Fault error) works).cause within
+  caused error e within = (did_of NoneBetween aim log none_goes 1 kept g.place g.core (calls_of (this ∷ [])) w.behind (ends.Fault error) works).cause within
     where
-      step : StepMade Told
-      step = record { result = told; made = made_of (ask_of aim g.place g.core) w.behind ∷ [] }
-
-      works : Works (WorkerStep NoneBetween aim log) core_there end_of ends.Turns (Holds aim log kept) 1 (ends.Fault error) (worker_at g.place g.core) (calls_of (step ∷ [])) w.behind
+      works : Works (WorkerStep NoneBetween aim log) core_there end_of ends.Turns (Holds aim log kept) 1 (ends.Fault error) (worker_at g.place g.core) (calls_of (this ∷ [])) w.behind
       works =
           record {
-            steps = step ∷ [];
+            steps = this ∷ [];
             last = worker_at w.after w.behind;
-            are = (worker_at w.after w.behind, record { mid = g.core; passed = refl; luck = w.luck; outcome = w.outcome; did = w.did; answer = w.answer; recorded = inl refl; goes_on = others_on }, refl);
+            are = (worker_at w.after w.behind, is_step, refl);
             left = w.stands;
             calls = refl;
             goes_on = stays_as_is Nobody w.behind;
-            ended = inl (omega arith, record { front = []; last = step; are = refl; going = tt; ends = ap end_of e });
+            ended = inl (omega arith, record { front = []; last = this; are = refl; going = tt; ends = ap end_of e });
           }
 
   fault_said : (error : WorldError) (outcome : Option UpkeepOutcome) → Answers (Ok (said.Fault error)) outcome → (fault : Fault) × (outcome ≡ Some (Faulted fault)) × IsTrouble error (faulted fault)
@@ -637,7 +653,7 @@ module _ (aim : Aim) (start : Core) (log : Log) (turns : ℕ) (held : HeldPlace)
   pub stops_here : (stop : Stop) → went_on told ≡ Err stop → world.store_faults ≤ last_count → Rests aim (Err stop) start log new
   stops_here stop e within =
       let same = g.world_stands.store_faults in
-      record { after = w.behind; goes_on = start_on; stands = w.world_stands; unasked = now_unasked; ended = stopped stop told refl e (omega (arith, within, same)) }
+      record { after = w.behind; works = work_done; goes_on = start_on; stands = w.world_stands; unasked = now_unasked; ended = stopped stop told refl e (omega (arith, within, same)) }
 
 -- ---- so many steps fill a journal
 
@@ -651,7 +667,7 @@ filled aim start core turns many (uploaded held) reached since = (since, omega (
 
 pub fills : (aim : Aim) (start : Core) (log : Log) (turns : ℕ) (held : HeldPlace) (world : Keeping) → 1040000000 ≤ turns → Going aim start log turns held world → Rests aim (Err (stops.Fault errors.Full)) start log world
 fills aim start log turns held world many g =
-    record { after = g.core; goes_on = g.goes_on; stands = g.world_stands; unasked = g.unasked; ended = filled aim start g.core turns many g.place g.reached g.since }
+    record { after = g.core; works = record { steps = g.steps; place = g.place; are = g.are }; goes_on = g.goes_on; stands = g.world_stands; unasked = g.unasked; ended = filled aim start g.core turns many g.place g.reached g.since }
 
 -- ---- a step of a worker of the code
 

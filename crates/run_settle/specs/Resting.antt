@@ -10,7 +10,7 @@ use Rattle.upkeep_run.specs.declared.work.Aim.{Aim}
 use Rattle.upkeep_run.specs.declared.work.Aim.TheVariants.{Deleting, Merging}
 use Rattle.upkeep_run.specs.declared.work.WorkerPlace.{WorkerPlace as HeldPlace}
 use Rattle.upkeep_run.specs.declared.work.WorkerPlace.TheVariants as places
-use Rattle.run_settle.specs.Settling.{HadWork, IsAtRest, IsCrowded, IsHindered, IsUnasked}
+use Rattle.run_settle.specs.Settling.{HadWork, IsAtRest, IsCrowded, IsHindered, IsUnasked, WorksByTurns, WorksFrom}
 use Rattle.run_settle.specs.declared.settling.Stop.{Stop}
 use Rattle.run_settle.specs.declared.settling.Stop.TheVariants as stops
 use Rattle.run_settle.specs.declared.settling.Worker.{Worker}
@@ -66,6 +66,7 @@ RestsBy aim (Err stop) core after = IsStop stop core after
 -- what a worker did from a core on, up to where it led
 pub record Rests (aim : Aim) (result : Result Bool Stop) (core : Core) (log : Log) (new : Keeping) : Type 0 where
   pub after : Core
+  pub works : WorksFrom aim log core after
   pub goes_on : GoesFor Nobody core after
   pub stands : WorldStands new after log
   pub unasked : IsUnasked core.moment after
@@ -78,6 +79,7 @@ RestsAllBy (Err stop) core after = IsStop stop core after
 -- what both did
 pub record RestsAll (result : Result (Unit {0}) Stop) (core : Core) (log : Log) (new : Keeping) : Type 0 where
   pub after : Core
+  pub works : WorksByTurns log core after
   pub goes_on : GoesFor Nobody core after
   pub stands : WorldStands new after log
   pub unasked : IsUnasked core.moment after

@@ -1,5 +1,5 @@
 -- What settling an index leaves: no task to apply, and no rows to merge.
-use Rattle.std.specs.Prelude.{◌≡◌, ℕ, ◌≤◌, max, true, false, List, ◌++◌, length, Option, None, Result, Ok, Err, ⊤}
+use Rattle.std.specs.Prelude.{◌≡◌, ℕ, ◌≤◌, max, true, false, List, [], ◌∷◌, ◌++◌, length, Option, None, Result, Ok, Err, ⊤}
 use Rattle.std.specs.List.{AllByRecursion}
 use Rattle.std.specs.declared.alloc.AllocError.{AllocError}
 use Rattle.index_config.specs.declared.config.IndexConfig.{IndexConfig}
@@ -14,11 +14,17 @@ use Rattle.split_states.specs.Rows.{is_published}
 use Rattle.split_states.specs.declared.rows.Row.{Row}
 use Rattle.index_world.specs.Configuration.{config_or, configuration}
 use Rattle.index_world.specs.Core.{Core, Nobody}
+use Rattle.index_world.specs.Gate.{NoneBetween}
 use Rattle.index_world.specs.Index.{max_entries}
-use Rattle.index_world.specs.Ran.{IsCause}
+use Rattle.index_world.specs.Ran.{AreSteps, IsCause, StepMade}
 use Rattle.index_world.specs.World.{GoesFor, Keeping, WorldStands}
 use Rattle.index_world.specs.declared.world_error.WorldError.{WorldError}
 use Rattle.index_world.specs.declared.world_error.WorldError.TheVariants as errors
+use Rattle.upkeep_run.specs.Ending.{Told}
+use Rattle.upkeep_run.specs.Places.{WorkerPlace, idle}
+use Rattle.upkeep_run.specs.WorkAll.{WorkerStep, worker_at}
+use Rattle.upkeep_run.specs.declared.work.Aim.{Aim}
+use Rattle.upkeep_run.specs.declared.work.Aim.TheVariants.{Deleting, Merging}
 use Rattle.run_settle.specs.declared.settling.Settled.{Settled}
 use Rattle.run_settle.specs.declared.settling.Settled.TheVariants as settled
 use Rattle.run_settle.specs.declared.settling.Stop.{Stop}
@@ -85,9 +91,31 @@ SettlesBy (Ok (settled.Refused refusal)) core after = HadWork core after × IsCr
 SettlesBy (Ok (settled.Fault error)) core after = IsHindered error core after
 SettlesBy (Err refused) core after = ⊤
 
--- WHAT SETTLING DID from a core on: the index went on, the world stands for where it led, no clock was asked, and it ended there.
+-- ---- what is done
+
+-- steps of a worker that was idle, one behind another, and nobody between them
+pub record WorksFrom (aim : Aim) (log : Log) (core after : Core) : Type 0 where
+  pub steps : List (StepMade Told)
+  pub place : WorkerPlace
+  pub are : AreSteps (WorkerStep NoneBetween aim log) (worker_at idle core) steps (worker_at place after)
+
+-- a delete worker and a merger by turns, the delete worker first
+abbrev pub AreTurns : List Aim → Type 0
+AreTurns [] = ⊤
+AreTurns (aim ∷ []) = aim ≡ Deleting
+AreTurns (aim ∷ next ∷ more) = (aim ≡ Deleting) × (next ≡ Merging) × AreTurns more
+
+-- Their steps lead from the one core to the other: so nothing is entered but what they enter, and what stood or was late.
+pub record WorksByTurns (log : Log) (core after : Core) : Type 0 where
+  pub aims : List Aim
+  pub turns : AreTurns aims
+  pub are : AreSteps (λ from aim to. WorksFrom aim log from to) core aims after
+
+-- WHAT SETTLING DID from a core on, whose clock is asked no more: the index went on by the steps of a delete worker and of a merger, the world stands
+-- for where they led, no clock was asked, and it ended there.
 pub record Settles (result : Result Settled AllocError) (core : Core) (log : Log) (new : Keeping) : Type 0 where
   pub after : Core
+  pub works : WorksByTurns log (record core { frozen = true }) after
   pub goes_on : GoesFor Nobody core after
   pub stands : WorldStands new after log
   pub unasked : IsUnasked core.moment after

@@ -3,8 +3,11 @@ use Rattle.std.proofs.lemmas.Result.{err_from_is_err_and}
 use Rattle.std.specs.Prelude.{Bool, Result, Ok, Err}
 use Rattle.run_settle.specs.Resting.{aim_of, place_of}
 use Rattle.run_settle.specs.declared.settling.Stop.{Stop}
-use Rattle.run_settle.proofs.Resting.{fills, goes_further, rests_here, stops_here, works_for}
+use Rattle.run_settle.proofs.Resting.{fills, goes_further, none_yet, rests_here, stops_here, works_for}
 use Rattle.run_settle.proofs.settling.rest.Goals as goal
+
+pub loop-turn-init : goal.loop-turn-init
+loop-turn-init g c = (c.start-worker.ensures.aim, λ core log is frozen s. none_yet c.args.aim core log (place_of c.start-worker.result) c.args.gate.now.world c.start-worker.ensures.idle frozen s)
 
 pub returns-in_err-went_on : goal.returns-in_err-went_on
 returns-in_err-went_on g c = λ core log is frozen s.
