@@ -188,6 +188,18 @@ impl<L: SourceLog> Indexer<L> {
         &self.log
     }
 
+    /// Gives the log back. What it held beside that is dropped.
+    pub fn into_log(self) -> L
+        ensures { result ≡ self.log }
+    {
+        let Indexer {
+            log,
+            assignment: _,
+            place: _,
+        } = self;
+        log
+    }
+
     /// From here on it reads these partitions alone, in this order.
     pub fn assign(&mut self, partitions: Partitions)
         ensures log { self.new.log ≡ self.old.log }
