@@ -1,5 +1,5 @@
 -- What a transaction says of the journal that it came to.
-use Rattle.std.proofs.Common.{◌≡◌, ℕ, ◌<◌, ◌≤◌, Bool, true, false, List, [], ◌∷◌, ◌++◌, length, refl, ap, subst, arith}
+use Rattle.std.proofs.Common.{◌≡◌, ℕ, ◌<◌, ◌≤◌, Bool, true, false, List, [], ◌∷◌, ◌++◌, length, refl, ap, arith}
 use Rattle.std.proofs.lemmas.Bool.{leb-true}
 use Rattle.std.proofs.lemmas.List.{length-append}
 use Rattle.std.specs.Prelude.{Result, Ok, Err, ⊤, nat_le}
@@ -10,7 +10,7 @@ use Rattle.index_world.specs.Calls.{Call, Fate, Gives, Made, made, exists, faile
 use Rattle.index_world.specs.Core.{Core}
 use Rattle.index_world.specs.Index.{max_entries}
 use Rattle.node_run.proofs.CallTells.{IfErr, IsStoreTrouble, got_own, settle_own}
-use Rattle.run_settle.proofs.Keeping.{create_keeps, get_keeps, settled_keeps, troubled_keeps}
+use Rattle.run_settle.proofs.Keeping.{create_keeps, get_keeps, settled_keeps}
 
 -- ---- the history has so many entries at least
 

@@ -1,18 +1,16 @@
 -- An index is at rest exactly where a plan for deletes and one for a merge have no rows.
-use Rattle.std.proofs.Common.{◌≡◌, ℕ, ◌<◌, ◌≤◌, ◌&&◌, Bool, true, false, List, [], ◌∷◌, length, refl, sym, ap, ◌∙◌, subst, arith}
-use Rattle.std.proofs.lemmas.Bool.{and_from, eqb-false, le-leb, le-ltb, ltb-false, or_parts}
+use Rattle.std.proofs.Common.{◌≡◌, ℕ, ◌<◌, ◌≤◌, ◌&&◌, Bool, true, false, List, [], ◌∷◌, length, refl, sym, ap, ◌∙◌, arith}
+use Rattle.std.proofs.lemmas.Bool.{and_from, le-leb, le-ltb, ltb-false, or_parts}
 use Rattle.std.specs.List.{AllByRecursion, list_any}
-use Rattle.std.specs.Prelude.{◌||◌, Option, Some, None, nat_le, nat_lt}
+use Rattle.std.specs.Prelude.{◌||◌, Option, Some, nat_le, nat_lt}
 use Rattle.index_config.proofs.Ranges.{accepted-ranges}
 use Rattle.index_config.specs.Accepted.{IsBetween, HasPolicyRanges, HasRanges}
 use Rattle.index_config.specs.declared.config.IndexConfig.{IndexConfig}
 use Rattle.index_config.specs.declared.config.Policy.{Policy}
 use Rattle.index_config.specs.declared.config.Policy.TheVariants.{StableLog, LimitMerge, NoMerge}
-use Rattle.meta_journal.specs.declared.entry.Entry.{Entry}
 use Rattle.meta_store.proofs.Formed.{IsGood, shaped}
 use Rattle.meta_store.specs.History.{history, last_opstamp}
 use Rattle.meta_store.specs.Planning.{config_fits, is_behind, is_within, policy_fits}
-use Rattle.meta_store.specs.Readings.{config_of}
 use Rattle.meta_store.specs.Rows.{rows}
 use Rattle.meta_store.specs.State.{Legal}
 use Rattle.source_checkpoint.specs.Deltas.{IsSpan}

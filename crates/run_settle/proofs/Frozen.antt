@@ -1,12 +1,12 @@
 -- What is said from a core on whose clock is asked no more is said from that core on.
-use Rattle.std.proofs.Common.{◌⊎◌, inl, inr, ℕ, List, true}
+use Rattle.std.proofs.Common.{inl, inr, ℕ, List, true}
 use Rattle.std.specs.Prelude.{Result, Ok, Err}
 use Rattle.source_log.specs.Log.{Log}
-use Rattle.index_world.specs.Core.{Core, IsPlannedIn, IsShownIn, IsStoredIn, IsUnusedIn, IsUploadedIn, Nobody}
+use Rattle.index_world.specs.Core.{Core, IsPlannedIn, IsUploadedIn, Nobody}
 use Rattle.index_world.specs.World.{GoesFor, Keeping}
 use Rattle.index_world.specs.declared.world_error.WorldError.{WorldError}
 use Rattle.index_world.specs.declared.world_error.WorldError.TheVariants as errors
-use Rattle.run_settle.specs.Resting.{IsStop, RestsAll, RestsAllBy}
+use Rattle.run_settle.specs.Resting.{RestsAll, RestsAllBy}
 use Rattle.run_settle.specs.Settling.{HadWork, IsHindered, Settles, SettlesBy, settled_of}
 use Rattle.run_settle.specs.declared.settling.Stop.{Stop}
 use Rattle.run_settle.specs.declared.settling.Stop.TheVariants as stops

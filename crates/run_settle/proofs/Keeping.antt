@@ -5,7 +5,7 @@ use Rattle.std.specs.Prelude.{Option, Some, None, Result, Ok, Err, ⊤, ◌||◌
 use Rattle.meta_journal.specs.declared.entry.Act.{Act}
 use Rattle.meta_journal.specs.declared.entry.Entry.{Entry}
 use Rattle.index_world.proofs.Worlds.{same-landed}
-use Rattle.index_world.specs.Calls.{Effect, done_at_once, done_late, done_never, is_at_once, Fate, Call, Trouble, Unmade, Gives, Made, made, exists, failed, risen, may_fail, begun, tried, made_behind, made_at, create_at_end, taken_in, or_short, unless_short, asked_clock, asking, and_then_by, taken_unless, got_at, get_at_end, settle_made, settle_with, settled, fence_of, entry_of, may_append, last_made, last_unless, last_create, troubled_by, as_unmade, adopted_made, first_unless, transact, appended, looked, asked_and_looked, file_by, file_made, got_file, file_got, Grace, unless_over, fetched}
+use Rattle.index_world.specs.Calls.{Effect, done_at_once, done_late, done_never, is_at_once, Fate, Call, Trouble, Unmade, Gives, Made, made, exists, failed, risen, may_fail, begun, tried, made_behind, made_at, create_at_end, taken_in, or_short, unless_short, asked_clock, asking, and_then_by, taken_unless, got_at, get_at_end, settle_made, settle_with, settled, fence_of, entry_of, may_append, last_made, last_unless, last_create, troubled_by, adopted_made, first_unless, transact, appended, looked, asked_and_looked, file_by, file_made, got_file, file_got, Grace, unless_over, fetched}
 use Rattle.index_world.specs.Core.{Core, file_at}
 
 module _ (P : Core → Type 0) (same : (a b : Core) → b.history ≡ a.history → b.moment ≡ a.moment → b.frozen ≡ a.frozen → P a → P b)

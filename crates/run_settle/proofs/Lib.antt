@@ -7,3 +7,4 @@ pub mod RestSteps
 pub mod Resting
 pub mod RestAll
 pub mod Frozen
+pub mod EndTexts

@@ -1,11 +1,10 @@
 -- A delete worker and a merger, one after the other, until neither finds anything to do.
-use Rattle.std.proofs.Common.{◌≡◌, ◌⊎◌, inl, inr, ℕ, ◌+◌, ◌<◌, ◌≤◌, max, Bool, true, false, List, [], ◌∷◌, ◌++◌, length, refl, sym, ap, ◌∙◌, subst, append_assoc, arith}
+use Rattle.std.proofs.Common.{◌≡◌, ◌⊎◌, inl, inr, ℕ, ◌+◌, ◌≤◌, max, Bool, true, false, List, [], ◌∷◌, ◌++◌, length, refl, sym, ap, ◌∙◌, subst, append_assoc, arith}
 use Rattle.std.proofs.lemmas.List.{append-nil, length-append}
-use Rattle.std.specs.Prelude.{Result, Ok, Err, ⊤}
+use Rattle.std.specs.Prelude.{Ok, Err, ⊤}
 use Rattle.meta_journal.specs.declared.entry.Entry.{Entry}
 use Rattle.meta_store.proofs.Numbers.{history-snoc}
 use Rattle.meta_store.specs.History.{history, moment_of}
-use Rattle.meta_store.specs.declared.refusal.Refusal.{Refusal}
 use Rattle.source_log.specs.Log.{Log}
 use Rattle.index_world.specs.Core.{Core, Nobody}
 use Rattle.index_world.specs.DirectLaws.{stays_as_is}
@@ -18,7 +17,7 @@ use Rattle.upkeep_run.proofs.Holding.{sound_legal}
 use Rattle.upkeep_run.specs.Steps.{rows_in}
 use Rattle.upkeep_run.specs.declared.work.Aim.{Aim}
 use Rattle.upkeep_run.specs.declared.work.Aim.TheVariants.{Deleting, Merging}
-use Rattle.run_settle.specs.Resting.{HasRested, IsStop, Rests, RestsAll, RestsBy, Worked}
+use Rattle.run_settle.specs.Resting.{IsStop, Rests, RestsAll, Worked}
 use Rattle.run_settle.specs.Settling.{AreTurns, HadWork, IsAtRest, IsHindered, IsUnasked, WorksByTurns, WorksFrom, moment_behind}
 use Rattle.run_settle.specs.declared.settling.Stop.{Stop}
 use Rattle.run_settle.specs.declared.settling.Stop.TheVariants as stops

@@ -1,7 +1,7 @@
 -- What a step of a worker says of the core that it came to.
-use Rattle.std.proofs.Common.{◌≡◌, ℕ, ◌<◌, ◌≤◌, Bool, true, false, List, [], ◌∷◌, length, refl, sym, ap, ◌∙◌, subst, arith}
+use Rattle.std.proofs.Common.{◌≡◌, ℕ, ◌<◌, ◌≤◌, Bool, true, false, List, [], ◌∷◌, length, refl, sym, ◌∙◌, arith}
 use Rattle.std.proofs.lemmas.Bool.{leb-true}
-use Rattle.std.specs.Prelude.{Option, Some, None, Result, Ok, Err, ⊤, ◌||◌, if◌then◌else◌, nat_le, is_some}
+use Rattle.std.specs.Prelude.{Option, Some, None, Result, Ok, Err, ⊤, ◌||◌, if◌then◌else◌, nat_le}
 use Rattle.meta_journal.specs.Places.{split_key}
 use Rattle.meta_journal.specs.declared.entry.Act.{Act}
 use Rattle.meta_journal.specs.declared.entry.Act.TheVariants.{Raise, Replace}
@@ -9,7 +9,7 @@ use Rattle.meta_journal.specs.declared.entry.Entry.{Entry}
 use Rattle.source_log.specs.Log.{Log}
 use Rattle.split_states.specs.declared.facts.RowFacts.{RowFacts}
 use Rattle.split_states.specs.declared.rows.Row.{Row}
-use Rattle.index_world.specs.Calls.{Call, Fate, Gives, Grace, Made, made, exists, failed, Trouble, faulted, no_memory, Unmade, refused, troubled, store_fault, is_foreign, is_full, is_expired, and_then_by, answer_behind, asked_and_looked, asked_clock, asking, begun, create_at_end, entry_of, fence_of, fetched, file_got, file_made, get_at_end, got_at, got_file, is_at_once, may_fail, or_short as or_short_call, risen, settle_made, settle_making, settle_with, settled_and_copied, taken_unless, unless_over, unless_short, upload_made}
+use Rattle.index_world.specs.Calls.{Call, Fate, Gives, Grace, Made, made, exists, failed, Trouble, faulted, no_memory, Unmade, refused, troubled, store_fault, is_foreign, is_full, is_expired, and_then_by, answer_behind, asked_and_looked, asked_clock, asking, begun, create_at_end, entry_of, fence_of, fetched, file_got, got_at, got_file, is_at_once, may_fail, or_short as or_short_call, risen, settle_made, settle_making, settle_with, settled_and_copied, taken_unless, unless_over, unless_short, upload_made}
 use Rattle.index_world.specs.Core.{Core}
 use Rattle.index_world.specs.Gate.{raise_call, replace_call, stage_act, stage_call}
 use Rattle.index_world.specs.Index.{max_entries}
@@ -18,7 +18,7 @@ use Rattle.index_world.proofs.Worlds.{same-landed}
 use Rattle.upkeep_run.specs.Outcomes.{UpkeepOutcome, Nothing, Planned, Fetched, Uploaded, Replaced, Raised, Lost, Refused, Faulted}
 use Rattle.upkeep_run.specs.Outcomes as said
 use Rattle.upkeep_run.specs.Places.{WorkerHeld, WorkerPlace, Work, fetching, held_facts, held_file, idle, staged, until_of, uploaded}
-use Rattle.upkeep_run.specs.Steps.{WorkerLuck, Stepped, drops_none, fetch_by, first_number, grace_in, held_of, or_short, plan_by, plan_with, raise_by, replace_by, rows_in, stage_by, step_close, step_place, step_raise, step_stage, step_work, step_worker, upload_by, work_in}
+use Rattle.upkeep_run.specs.Steps.{WorkerLuck, Stepped, drops_none, fetch_by, first_number, grace_in, held_of, or_short, plan_by, plan_with, raise_by, replace_by, rows_in, stage_by, step_close, step_raise, step_stage, step_work, step_worker, upload_by, work_in}
 use Rattle.upkeep_run.specs.declared.work.Aim.{Aim}
 use Rattle.upkeep_run.specs.declared.work.Aim.TheVariants.{Deleting, Merging}
 use Rattle.node_run.proofs.CallTells.{AreLow, IfErr, IsOwnTrouble, IsStoreTrouble, appended_own, asked_and_looked_own, file_own}

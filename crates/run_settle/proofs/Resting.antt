@@ -14,12 +14,11 @@ use Rattle.meta_store.specs.Rows.{rows}
 use Rattle.meta_store.specs.declared.refusal.Refusal.{Refusal}
 use Rattle.source_log.specs.Log.{IsLog, Log}
 use Rattle.split_states.specs.Rows.{is_published, row_at}
-use Rattle.split_states.specs.Answers.{IsIn}
 use Rattle.split_states.specs.declared.rows.Row.{Row}
 use Rattle.split_states.specs.declared.rows.RowState.{RowState}
 use Rattle.split_states.specs.declared.rows.RowState.TheVariants.{Marked, Published, Staged}
-use Rattle.index_world.specs.Calls.{Fault, Trouble, faulted, no_memory, is_expired, is_foreign, is_full}
-use Rattle.index_world.specs.CallsMade.{CallMade, made_of}
+use Rattle.index_world.specs.Calls.{Fault, faulted, no_memory, is_expired, is_foreign, is_full}
+use Rattle.index_world.specs.CallsMade.{made_of}
 use Rattle.index_world.specs.Config.{reads}
 use Rattle.index_world.specs.Configuration.{configuration}
 use Rattle.index_world.specs.Core.{Core, IsOther, Nobody, journal_of, last_count}
@@ -44,9 +43,9 @@ use Rattle.upkeep_run.specs.Ending.{Told}
 use Rattle.upkeep_run.specs.Losing.{CanRaise, LosesUnless}
 use Rattle.upkeep_run.specs.Outcomes.{UpkeepOutcome, Nothing, Planned, Fetched, Uploaded, Replaced, Raised, Lost, Refused, Faulted}
 use Rattle.upkeep_run.specs.Outcomes as outcomes
-use Rattle.upkeep_run.specs.Places.{IsWork, WorkerHeld, WorkerPlace, Work, fetching, idle, number_held, staged, until_of, uploaded}
+use Rattle.upkeep_run.specs.Places.{IsWork, WorkerHeld, WorkerPlace, Work, fetching, idle, number_held, staged, uploaded}
 use Rattle.upkeep_run.specs.Standing.{Answers, IsSaid, PlaceStands}
-use Rattle.upkeep_run.specs.Steps.{Stepped, WorkerLuck, drops_none, first_number, rows_in, step_worker, work_in}
+use Rattle.upkeep_run.specs.Steps.{Stepped, first_number, rows_in, step_worker, work_in}
 use Rattle.upkeep_run.specs.WorkAll.{Holds, WorkerStep, core_there, end_of, worker_at}
 use Rattle.upkeep_run.specs.declared.outcome.UpkeepOutcome.{UpkeepOutcome as Said}
 use Rattle.upkeep_run.specs.declared.outcome.UpkeepOutcome.TheVariants as said

@@ -1,7 +1,7 @@
 -- The lines in which ends are told: a name and the words of a last outcome, as a schedule's lines have them.
 use Rattle.std.specs.Prelude.{◌≡◌, ℕ, Bool, true, false, List, [], ◌∷◌, decimal, codes, Option, Some, None}
 use Rattle.std.specs.Option.{option_map}
-use Rattle.index_world.specs.Saying.{error_words, refusal_words, with_words, words}
+use Rattle.index_world.specs.Saying.{with_words, words}
 use Rattle.indexing_run.specs.Standing.{said_words as indexer_words}
 use Rattle.indexing_run.specs.declared.indexing.IndexerEnd.{IndexerEnd}
 use Rattle.indexing_run.specs.declared.indexing.IndexerEnd.TheVariants as indexers

@@ -1,5 +1,5 @@
 -- What one worker does up to where it finds nothing to do.
-use Rattle.std.specs.Prelude.{◌≡◌, ℕ, ◌<◌, Bool, true, false, List, [], length, Result, Ok, Err, ⊤}
+use Rattle.std.specs.Prelude.{◌≡◌, ◌<◌, Bool, true, false, [], length, Result, Ok, Err, ⊤}
 use Rattle.source_log.specs.Log.{Log}
 use Rattle.index_world.specs.Core.{Core, Nobody}
 use Rattle.index_world.specs.World.{GoesFor, Keeping, WorldStands}

@@ -61,11 +61,7 @@ fn put_worker_end(alloc: Global, out: &mut Bytes, end: &WorkerEnd) -> Result<boo
     Ok(true)
 }
 
-fn put_collector_end(
-    alloc: Global,
-    out: &mut Bytes,
-    end: &CollectorEnd,
-) -> Result<bool, AllocError>
+fn put_collector_end(alloc: Global, out: &mut Bytes, end: &CollectorEnd) -> Result<bool, AllocError>
     ensures { IfOk result (λ put. IsPut (collector_end_words end.now) put out.old out.new) }
 {
     match end {

@@ -1,6 +1,6 @@
 use Rattle.std.proofs.Common.{◌≡◌, true, false, sym, ap, ◌∙◌, arith}
 use Rattle.std.proofs.lemmas.Result.{err_from_is_err_and}
-use Rattle.std.specs.Prelude.{Bool, Result, Ok, Err}
+use Rattle.std.specs.Prelude.{Bool, Result, Ok}
 use Rattle.run_settle.specs.Resting.{aim_of, place_of}
 use Rattle.run_settle.specs.declared.settling.Stop.{Stop}
 use Rattle.run_settle.proofs.Resting.{fills, goes_further, none_yet, rests_here, stops_here, works_for}
