@@ -8,3 +8,4 @@ pub mod Resting
 pub mod RestAll
 pub mod Frozen
 pub mod EndTexts
+pub mod Wholly

@@ -5,4 +5,4 @@ mod end_lines;
 mod settling;
 
 pub use end_lines::{ActorEnd, end_line, settled_line};
-pub use settling::{Settled, settle};
+pub use settling::{Settled, settle, settles_wholly};

@@ -1,14 +1,19 @@
 //! An index whose actors are done is settled: no task is left to apply, and no rows are left to merge.
 
-ghost use Rattle.std.specs.Prelude.{◌≡◌, ◌≤◌, ℕ, List, true};
+ghost use Rattle.std.specs.Prelude.{◌≡◌, ◌<◌, ◌≤◌, ℕ, IsOk, List, Ok, Result, length, true};
+ghost use Rattle.std.specs.declared.alloc.AllocError.{AllocError as Want};
+ghost use Rattle.meta_store.specs.History.{history};
+ghost use Rattle.meta_store.specs.Rows.{rows};
 ghost use Rattle.source_log.specs.Log.{IsLog, Log};
 ghost use Rattle.index_world.specs.Core.{Core, last_count};
+ghost use Rattle.index_world.specs.Index.{max_entries};
 ghost use Rattle.index_world.specs.World.{WorldStands};
 ghost use Rattle.node_run.specs.Alone.{WorksAlone};
-ghost use Rattle.upkeep_run.specs.Places.{WorkerPlace as Stand, idle};
+ghost use Rattle.upkeep_run.specs.Places.{WorkerPlace as Stand};
 ghost use Rattle.upkeep_run.specs.Standing.{PlaceStands};
 ghost use Rattle.run_settle.specs.Resting.{IsIdle, Rests, RestsAll, aim_of, place_of, went_on};
-ghost use Rattle.run_settle.specs.Settling.{Settles, settled_of};
+ghost use Rattle.run_settle.specs.Settling.{Settles, SettlesBy, settled_of};
+ghost use Rattle.run_settle.specs.declared.settling.Settled.{Settled as End};
 
 use index_world::{Direct, SteadyClock, World, WorldError};
 use meta_store::Refusal;
@@ -35,21 +40,21 @@ pub(crate) enum Stop {
     Memory(AllocError),
 }
 
+// A worker, by what it works for.
 #[derive(Drop)]
 pub(crate) enum Worker {
     Deleting(DeleteWorker),
     Merging(Merger),
 }
 
-// How many entries a journal has at most, and so how many times in a row there is something to do.
-const MOST_ENTRIES: u64 = 10_000_000;
+// A round in which there was something to do made an entry, so behind so many a journal is full.
+const MOST_ROUNDS: u64 = 10_000_000;
 
-// How many steps a worker takes at most to fill a journal: with at most 104 steps, for at most 100 rows, it makes an entry.
+// A worker makes an entry with every 104 steps at least: it plans at most 100 rows, fetches their files, and stages, uploads and replaces. So behind
+// so many a journal is full.
 const MOST_STEPS: u64 = 1_040_000_000;
 
 impl Worker {
-    ghost use Rattle.run_settle.specs.Resting.{IsIdle, aim_of, place_of};
-
     fn start(aim: Aim) -> Worker
         ensures aim { aim_of result ≡ aim }
         ensures idle { IsIdle (place_of result) }
@@ -98,7 +103,7 @@ fn went_on(answer: Result<UpkeepOutcome, AllocError>) -> Result<bool, Stop>
     }
 }
 
-// The steps of a worker up to the first that finds nothing to do, and whether one before it did. A journal is full behind so many steps.
+// Takes the steps of a worker up to the first that finds nothing to do, and says whether one before it found something.
 fn rest<S: ObjectStore, C: SteadyClock>(
     alloc: Global,
     gate: &mut Direct<S, C>,
@@ -115,14 +120,14 @@ fn rest<S: ObjectStore, C: SteadyClock>(
     Err(Stop::Fault(WorldError::Full))
 }
 
-// A delete worker and then a merger, again and again, until neither finds anything to do.
+// Lets a delete worker and then a merger work, again and again, until neither finds anything to do.
 fn rest_all<S: ObjectStore, C: SteadyClock>(
     alloc: Global,
     gate: &mut Direct<S, C>,
 ) -> Result<(), Stop>
     ensures { (core : Core) (log : Log) → IsLog log → core.frozen ≡ true → WorldStands gate.old.world core log → RestsAll result core log gate.new.world }
 {
-    for _ in 0..MOST_ENTRIES {
+    for _ in 0..MOST_ROUNDS {
         let deleted = rest(alloc, gate, Aim::Deleting)?;
         let merged = rest(alloc, gate, Aim::Merging)?;
         if !deleted && !merged {
@@ -158,3 +163,10 @@ pub fn settle<S: ObjectStore, C: SteadyClock>(
     let end = rest_all(alloc, &mut gate);
     (gate.into_world(), settled_of(end))
 }
+
+/// Settling is whole where there was memory, the store's count of faults didn't rise, and where it led neither so many rows stand that no
+/// more may be staged nor the journal is full.
+pub fn settles_wholly()
+    ensures { (result : Result End Want) (core after : Core) → SettlesBy result core after → IsOk result → after.store_faults ≡ core.store_faults → core.store_faults < last_count →
+        length (rows (history after.history)) < 100000 → length after.history < max_entries → result ≡ Ok Settled.Whole }
+{}
