@@ -2,14 +2,14 @@
 
 ghost use Rattle.std.specs.Prelude.{◌≡◌, ◌+◌, ◌<◌, ◌≤◌, ◌^◌, ◌∷◌, [], ℕ, List, length, suc, vec_capacity, vec_len};
 ghost use Rattle.std.specs.Vec.Iter.{into_iter_items};
-ghost use Rattle.run_all.specs.declared.run_end.ActorEnd.TheVariants as kinds;
+ghost use Rattle.run_settle.specs.declared.end_lines.ActorEnd.TheVariants as kinds;
 ghost use Rattle.run_all.specs.Ending.{at_work, ends_from, logs_behind};
 
 use crate::filling::push_within;
 use crate::outcome::Indexed;
-use crate::run_end::ActorEnd;
 use crate::staffing::Post;
 use indexing_run::IndexerEnd;
+use run_settle::ActorEnd;
 use source_log::SourceLog;
 use std::vec::IntoIter;
 

@@ -17,6 +17,6 @@ mod turning;
 
 pub use beginning::{Begun, indexers_of};
 pub use planning::{Plan, planned};
-pub use run_end::{ActorEnd, RunEnd, RunOptions, Settled};
+pub use run_end::{RunEnd, RunOptions};
 pub use running::run_unsettled;
 pub use sharing::shared_out;

@@ -1,7 +1,8 @@
 -- What a run did, from how it went.
 use Rattle.std.proofs.Common.{◌≡◌, ◌⊎◌, ℕ, zero, suc, ◌≤◌, ◌<◌, true, false, List, [], ◌∷◌, ◌++◌, length, map, drop, take, refl, sym, ap, ◌∙◌, subst, arith}
 use Rattle.std.specs.List.{AllByRecursion, AllZip}
-use Rattle.std.specs.Prelude.{Option, Some}
+use Rattle.std.specs.Prelude.{Option, Some, None, Bool, Result, Ok, Err}
+use Rattle.std.specs.declared.alloc.AllocError.{AllocError}
 use Rattle.std.specs.declared.alloc.Global.{Global}
 use Rattle.std.specs.declared.vec.Vec.{Vec}
 use Rattle.byte_fields.specs.Causes.{last_count}
@@ -33,16 +34,21 @@ use Rattle.run_all.specs.declared.beginning.Begun.{Begun}
 use Rattle.run_all.specs.declared.beginning.Begun.TheVariants as begun
 use Rattle.run_all.specs.declared.outcome.Indexed.{Indexed}
 use Rattle.run_all.specs.declared.outcome.Served.{Served}
-use Rattle.run_all.specs.declared.run_end.ActorEnd.{ActorEnd}
+use Rattle.run_settle.specs.declared.end_lines.ActorEnd.{ActorEnd}
 use Rattle.run_all.specs.declared.run_end.RunEnd.{RunEnd}
 use Rattle.run_all.specs.declared.run_end.RunOptions.{RunOptions}
 use Rattle.run_sources.specs.Sources.{common}
 use Rattle.run_sources.specs.declared.sources.Sources.{Sources}
 use Rattle.run_sources.proofs.Telling.{all_tell}
 use Rattle.index_world.specs.DirectLaws.{stays_as_is}
+use Rattle.index_world.proofs.Ran.{goes_then}
+use Rattle.search_api.specs.declared.reply.Reply.{Reply}
 use Rattle.run_laws.proofs.Replies.{goes_before}
 use Rattle.run_all.proofs.Jobs.{all_append, all_mapped, jobs_tell}
-use Rattle.run_did.specs.RunAll.{EndsAre, RunDid}
+use Rattle.run_settle.specs.Settling.{Settles, SettlesBy}
+use Rattle.run_settle.specs.declared.settling.Settled.{Settled}
+use Rattle.run_did.specs.RunAll.{EndsAre, IsSettled, RunDid}
+use Rattle.run_did.specs.Settled.{HasSettled, TellsSettled, WasSettled}
 use Rattle.run_did.proofs.Ends.{AnsweredBy, InKinds, in_kinds}
 use Rattle.run_did.proofs.Replies.{requests_replied}
 use Rattle.run_did.proofs.Says.{Says, all_say, end_core, end_goes, end_stands, sound_of}
@@ -106,6 +112,16 @@ module _ {S K M L : Type 0} (tells : M → Option Log) (told : L → Option Log)
         subst (RepliesFrom (IsReplyTo config log exit.history (length core.history) core exit) [] requests) (sym (made.worked.replies_are e))
         (requests_replied config log exit.history (length core.history) core exit requests searchers made.plan served some made.planned whole.all_served whole.all_answered answered)
 
+-- What a run did before it was settled, seen from where the index went on behind it.
+pub record RanTo {S L : Type 0} (count : L → ℕ) (options : RunOptions) (config : IndexConfig) (log : Log) (core : Core) (logs : List L) (requests : List Request) (end : RunEnd S L) : Type 0 where
+  pub from : Core
+  pub goes_on : GoesFor Nobody core from
+  pub stands : WorldStands end.world from log
+  pub replies : (exit : Core) → GoesFor Nobody from exit → IsSoundCore exit log → end.memory ≡ false → RepliesFrom (IsReplyTo config log exit.history (length core.history) core exit) [] requests end.replies.items
+  pub ends : (exit : Core) → GoesFor Nobody from exit → IsSoundCore exit log → end.memory ≡ false →
+      EndsAre config log exit.history (length core.history) core exit options.turns count options.indexers 0 (take options.indexers logs) end.logs.items end.ends.items
+  pub settled : end.settled ≡ None
+
 -- a run that was begun over this world
 module _ {S K L : Type 0} (told : L → Option Log) (count : L → ℕ) (since : L → L → Type 0) (options : RunOptions) (world : Keeping) (logs : List L) (requests : List Request) (end : RunEnd S L)
     (has : HasRun K told count since options world logs requests end) (log : Log) (core : Core) (stands : WorldStands world core log) (tell : AllByRecursion (λ own. told own ≡ Some log) (take options.indexers logs))
@@ -113,36 +129,85 @@ module _ {S K L : Type 0} (told : L → Option Log) (count : L → ℕ) (since :
   many : length (take options.indexers logs) ≡ options.indexers
   many = length_take options.indexers logs enough
 
-  pub did_of : (config : IndexConfig) → IsLog log → IsConfigured config core → AsksTexts config → end.world.store_faults ≤ last_count → 0 < options.searchers → RunDid count options config log core logs requests end
-  did_of config is_log configured texts counted searchers =
+  pub ran_to : (config : IndexConfig) → IsLog log → IsConfigured config core → AsksTexts config → end.world.store_faults ≤ last_count → 0 < options.searchers → RanTo count options config log core logs requests end
+  ran_to config is_log configured texts counted searchers =
       let tells : Sources L → Option Log = λ sources. common told sources.logs.items in
       let read = take options.indexers logs in
       let unused = drop options.indexers logs in
       let so : tells has.first.source.value ≡ Some log = ap (λ (ls : List L). common told ls) has.source ∙ all_tell told read log (let n = many in omega (arith, n, some)) tell in
       let begins : WorldStands has.first.opened.value core log = subst (λ (k : Keeping). WorldStands k core log) (sym has.opened) stands in
-      let exit = run_core tells told count since options.searchers options.turns read unused requests has.first end has.made log core so begins in
-      let at_exit = run_stands tells told count since options.searchers options.turns read unused requests has.first end has.made log core so begins in
-      let on = goes_before exit exit (stays_as_is Nobody exit) in
-      let sound = sound_of end.world exit log at_exit in
+      let from = run_core tells told count since options.searchers options.turns read unused requests has.first end has.made log core so begins in
       record {
-        exit = exit;
+        from = from;
         goes_on = run_goes tells told count since options.searchers options.turns read unused requests has.first end has.made log core so begins;
-        stands = at_exit;
-        replies = run_replies tells told count since options.searchers options.turns read unused requests has.first end has.made log core so begins config is_log configured texts counted tell searchers exit on sound;
-        ends = λ e. subst (λ n. EndsAre config log exit.history (length core.history) core exit options.turns count n 0 read end.logs.items end.ends.items) many
-            (run_ends tells told count since options.searchers options.turns read unused requests has.first end has.made log core so begins config is_log configured texts counted tell searchers exit on sound);
+        stands = run_stands tells told count since options.searchers options.turns read unused requests has.first end has.made log core so begins;
+        replies = λ exit on sound.
+        run_replies tells told count since options.searchers options.turns read unused requests has.first end has.made log core so begins config is_log configured texts counted tell searchers exit (goes_before from exit on) sound;
+        ends = λ exit on sound e. subst (λ n. EndsAre config log exit.history (length core.history) core exit options.turns count n 0 read end.logs.items end.ends.items) many
+            (run_ends tells told count since options.searchers options.turns read unused requests has.first end has.made log core so begins config is_log configured texts counted tell searchers exit (goes_before from exit on) sound);
+        settled = has.made.worked.settled;
       }
 
 true_false : true ≡ false → ⊥
 true_false e = cc
 
 -- one that wasn't
-pub none_did : {S L : Type 0} (count : L → ℕ) (options : RunOptions) (config : IndexConfig) (world : Keeping) (log : Log) (core : Core) (logs : List L) (requests : List Request) (end : RunEnd S L) → NotBegun world end → WorldStands world core log →
-    RunDid count options config log core logs requests end
-none_did count options config world log core logs requests end none stands = record {
-  exit = core;
+pub none_ran : {S L : Type 0} (count : L → ℕ) (options : RunOptions) (config : IndexConfig) (world : Keeping) (log : Log) (core : Core) (logs : List L) (requests : List Request) (end : RunEnd S L) → NotBegun world end → WorldStands world core log →
+    RanTo count options config log core logs requests end
+none_ran count options config world log core logs requests end none stands = record {
+  from = core;
   goes_on = stays_as_is Nobody core;
   stands = subst (λ (k : Keeping). WorldStands k core log) (sym none.same) stands;
-  replies = λ e. absurd (true_false (sym none.memory ∙ e));
-  ends = λ e. absurd (true_false (sym none.memory ∙ e));
+  replies = λ exit on sound e. absurd (true_false (sym none.memory ∙ e));
+  ends = λ exit on sound e. absurd (true_false (sym none.memory ∙ e));
+  settled = none.settled;
 }
+
+module _ {S L : Type 0} (count : L → ℕ) (options : RunOptions) (config : IndexConfig) (log : Log) (core : Core) (logs : List L) (requests : List Request) (end : RunEnd S L)
+    (ran : RanTo count options config log core logs requests end) where
+  -- nothing was settled
+  pub unsettled_did : options.settle ≡ false → RunDid count options config log core logs requests end
+  unsettled_did off =
+      let here = stays_as_is Nobody ran.from in
+      let sound = sound_of end.world ran.from log ran.stands in
+      record {
+        exit = ran.from;
+        goes_on = ran.goes_on;
+        stands = ran.stands;
+        replies = ran.replies ran.from here sound;
+        ends = ran.ends ran.from here sound;
+        settled = λ e. subst (λ (o : Option Settled). IsSettled options.settle o core ran.from) (sym ran.settled) (subst (λ (b : Bool). IsSettled b None core ran.from) (sym off) tt);
+      }
+
+  -- there was no memory, and nothing was settled
+  short_did : end.memory ≡ true → RunDid count options config log core logs requests end
+  short_did short =
+      let no : end.memory ≡ false → ⊥ = λ e. true_false (sym short ∙ e) in
+      record { exit = ran.from; goes_on = ran.goes_on; stands = ran.stands; replies = λ e. absurd (no e); ends = λ e. absurd (no e); settled = λ e. absurd (no e) }
+
+  told_as : (result : Result Settled AllocError) (told : Option Settled) (memory : Bool) (exit : Core) → TellsSettled result told memory → memory ≡ false → GoesFor Nobody ran.from exit → SettlesBy result ran.from exit → IsSettled true told core exit
+  told_as (Ok settled) told memory exit t e on says = subst (λ (o : Option Settled). IsSettled true o core exit) (sym t.0) (record { from = ran.from; ran = ran.goes_on; goes_on = on; says = says })
+  told_as (Err short) told memory exit t e on says = absurd (true_false (sym t ∙ e))
+
+  -- it was settled
+  was_settled_did : (last : RunEnd S L) → IsLog log → options.settle ≡ true → end.memory ≡ false → WasSettled end last → RunDid count options config log core logs requests last
+  was_settled_did last is_log asked whole was =
+      let s = was.settles ran.from log is_log ran.stands in
+      let sound = sound_of last.world s.after log s.stands in
+      record {
+        exit = s.after;
+        goes_on = goes_then core ran.from s.after ran.goes_on s.goes_on;
+        stands = s.stands;
+        replies = λ e. subst (λ (r : Vec Reply Global). RepliesFrom (IsReplyTo config log s.after.history (length core.history) core s.after) [] requests r.items) (sym was.replies) (ran.replies s.after s.goes_on sound whole);
+        ends = λ e. subst (λ (l : Vec L Global). EndsAre config log s.after.history (length core.history) core s.after options.turns count options.indexers 0 (take options.indexers logs) l.items last.ends.items) (sym was.logs)
+            (subst (λ (es : Vec ActorEnd Global). EndsAre config log s.after.history (length core.history) core s.after options.turns count options.indexers 0 (take options.indexers logs) end.logs.items es.items) (sym was.ends)
+            (ran.ends s.after s.goes_on sound whole));
+        settled = λ e. subst (λ (b : Bool). IsSettled b last.settled core s.after) (sym asked) (told_as was.result last.settled last.memory s.after was.told e s.goes_on s.ended);
+      }
+
+  by_memory : (last : RunEnd S L) (b : Bool) → IsLog log → options.settle ≡ true → HasSettled end last → end.memory ≡ b → RunDid count options config log core logs requests last
+  by_memory last true is_log asked has e = subst (λ (one : RunEnd S L). RunDid count options config log core logs requests one) (sym (has.short e)) (short_did e)
+  by_memory last false is_log asked has e = was_settled_did last is_log asked e (has.settled e)
+
+  pub settled_did : (last : RunEnd S L) → IsLog log → options.settle ≡ true → HasSettled end last → RunDid count options config log core logs requests last
+  settled_did last is_log asked has = by_memory last end.memory is_log asked has refl

@@ -30,8 +30,8 @@ use Rattle.run_all.specs.declared.beginning.Begun.{Begun}
 use Rattle.run_all.specs.declared.beginning.Begun.TheVariants as begun
 use Rattle.run_all.specs.declared.outcome.Indexed.{Indexed}
 use Rattle.run_all.specs.declared.outcome.Served.{Served}
-use Rattle.run_all.specs.declared.run_end.ActorEnd.{ActorEnd}
-use Rattle.run_all.specs.declared.run_end.ActorEnd.TheVariants as ends
+use Rattle.run_settle.specs.declared.end_lines.ActorEnd.{ActorEnd}
+use Rattle.run_settle.specs.declared.end_lines.ActorEnd.TheVariants as ends
 use Rattle.run_all.proofs.Loops.{gathered_append}
 use Rattle.run_did.specs.RunAll.{CollectorEnds, EndsAre, KeepersEnd, WorkerEnds}
 use Rattle.run_did.proofs.Says.{Says}

@@ -1,5 +1,5 @@
 -- What a run did, in the words of the index.
-use Rattle.std.specs.Prelude.{◌≡◌, ℕ, suc, false, List, [], ◌∷◌, length, take}
+use Rattle.std.specs.Prelude.{◌≡◌, ℕ, suc, Bool, true, false, List, [], ◌∷◌, length, take, Option, Some, None, Ok, ⊤}
 use Rattle.index_config.specs.declared.config.IndexConfig.{IndexConfig}
 use Rattle.meta_journal.specs.declared.entry.Entry.{Entry}
 use Rattle.source_log.specs.Log.{Log, names_of}
@@ -13,9 +13,11 @@ use Rattle.run_plan.specs.Every.{every}
 use Rattle.run_plan.specs.declared.clients.Request.{Request}
 use Rattle.run_laws.specs.ClientReplies.{IsReplyTo}
 use Rattle.run_laws.specs.Ends.{CollectorEnded, IndexerEnded, WorkerEnded}
+use Rattle.run_settle.specs.Settling.{SettlesBy}
+use Rattle.run_settle.specs.declared.settling.Settled.{Settled}
 use Rattle.run_all.specs.Replies.{RepliesFrom}
-use Rattle.run_all.specs.declared.run_end.ActorEnd.{ActorEnd}
-use Rattle.run_all.specs.declared.run_end.ActorEnd.TheVariants as ends
+use Rattle.run_settle.specs.declared.end_lines.ActorEnd.{ActorEnd}
+use Rattle.run_settle.specs.declared.end_lines.ActorEnd.TheVariants as ends
 use Rattle.run_all.specs.declared.run_end.RunEnd.{RunEnd}
 use Rattle.run_all.specs.declared.run_end.RunOptions.{RunOptions}
 
@@ -50,11 +52,26 @@ module _ (config : IndexConfig) (log : Log) (entries : List Entry) (least : ℕ)
     EndsAre place (first ∷ firsts) (last ∷ lasts) [] = ⊥
     EndsAre place (first ∷ firsts) (last ∷ lasts) (end ∷ all) = IndexerEnds place first last end × EndsAre (suc place) firsts lasts all
 
+-- What settling came to is told: the run led to a core, and settling from there to this one, and ended so.
+pub record IsTold (settled : Settled) (core exit : Core) : Type 0 where
+  pub from : Core
+  pub ran : GoesFor Nobody core from
+  pub goes_on : GoesFor Nobody from exit
+  pub says : SettlesBy (Ok settled) from exit
+
+-- it is told exactly where settling was asked
+abbrev pub IsSettled : (settle : Bool) → Option Settled → (core exit : Core) → Type 0
+IsSettled true None core exit = ⊥
+IsSettled true (Some settled) core exit = IsTold settled core exit
+IsSettled false None core exit = ⊤
+IsSettled false (Some settled) core exit = ⊥
+
 -- WHAT A RUN DID from a core on, over the log that all logs tell that were read: the index went on to a core for which the world stands that comes back.
--- Where there was memory, each request was replied, and each actor ended, as the journal says at that core.
+-- Where there was memory, each request was replied, each actor ended, and settling came to what is told, as the journal says at that core.
 pub record RunDid {S L : Type 0} (count : L → ℕ) (options : RunOptions) (config : IndexConfig) (log : Log) (core : Core) (logs : List L) (requests : List Request) (end : RunEnd S L) : Type 0 where
   pub exit : Core
   pub goes_on : GoesFor Nobody core exit
   pub stands : WorldStands end.world exit log
   pub replies : end.memory ≡ false → RepliesFrom (IsReplyTo config log exit.history (length core.history) core exit) [] requests end.replies.items
   pub ends : end.memory ≡ false → EndsAre config log exit.history (length core.history) core exit options.turns count options.indexers 0 (take options.indexers logs) end.logs.items end.ends.items
+  pub settled : end.memory ≡ false → IsSettled options.settle end.settled core exit

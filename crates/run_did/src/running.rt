@@ -8,6 +8,7 @@ ghost use Rattle.index_world.specs.Core.{Core, IsConfigured};
 ghost use Rattle.index_world.specs.World.{WorldStands};
 ghost use Rattle.root_search.specs.Replied.{AsksTexts};
 ghost use Rattle.run_did.specs.RunAll.{RunDid};
+ghost use Rattle.run_did.specs.Settled.{HasSettled};
 
 use clock_time::{Clock, ScriptClock};
 use index_world::World;
@@ -15,13 +16,45 @@ use object_store::ObjectStore;
 use root_search::LeafHold;
 use run_all::{RunEnd, RunOptions, run_unsettled};
 use run_plan::Request;
+use run_settle::settle;
 use source_log::SourceLog;
 use std::alloc::Global;
 use std::sync::Wait;
 use std::thread::Threads;
 
+// Settles the index behind a run, if there was memory for all.
+fn settled<S: ObjectStore, L: SourceLog>(alloc: Global, end: RunEnd<S, L>) -> RunEnd<S, L>
+    ensures { HasSettled end result }
+{
+    if end.memory {
+        return end;
+    }
+    let RunEnd {
+        world,
+        logs,
+        replies,
+        ends,
+        settled: _,
+        memory: _,
+    } = end;
+    let (world, outcome) = settle(alloc, world);
+    let (settled, memory) = match outcome {
+        Ok(settled) => (Some(settled), false),
+        Err(_) => (None, true),
+    };
+    RunEnd {
+        world,
+        logs,
+        replies,
+        ends,
+        settled,
+        memory,
+    }
+}
+
 /// Runs indexers, searchers, a merger, a delete worker and a collector, each in a thread of its own, over one world. The partitions of the logs
-/// are shared out among the indexers, which read them up to their ends; the clients of the requests are shared out among the searchers.
+/// are shared out among the indexers, which read them up to their ends; the clients of the requests are shared out among the searchers. Where it is
+/// asked, the index is settled behind them.
 pub fn run<
     R: Threads + Wait + Sync,
     S: ObjectStore + Send,
@@ -47,5 +80,5 @@ pub fn run<
     let end = run_unsettled(rt, alloc, world, clock, logs, requests, options, hold);
     // The count of a store has its range.
     let _count = end.world.faults();
-    end
+    if options.settle { settled(alloc, end) } else { end }
 }
