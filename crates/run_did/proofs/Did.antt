@@ -148,7 +148,7 @@ module _ {S K L : Type 0} (told : L → Option Log) (count : L → ℕ) (since :
         settled = has.made.worked.settled;
       }
 
-true_false : true ≡ false → ⊥
+pub true_false : true ≡ false → ⊥
 true_false e = cc
 
 -- one that wasn't

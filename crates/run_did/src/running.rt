@@ -8,7 +8,7 @@ ghost use Rattle.index_world.specs.Core.{Core, IsConfigured};
 ghost use Rattle.index_world.specs.World.{WorldStands};
 ghost use Rattle.root_search.specs.Replied.{AsksTexts};
 ghost use Rattle.run_did.specs.RunAll.{RunDid};
-ghost use Rattle.run_did.specs.Settled.{HasSettled};
+ghost use Rattle.run_did.specs.Settled.{HasSettled, TellsSettled};
 
 use clock_time::{Clock, ScriptClock};
 use index_world::World;
@@ -16,11 +16,22 @@ use object_store::ObjectStore;
 use root_search::LeafHold;
 use run_all::{RunEnd, RunOptions, run_unsettled};
 use run_plan::Request;
-use run_settle::settle;
+use run_settle::{Settled, settle};
 use source_log::SourceLog;
-use std::alloc::Global;
+use std::alloc::{AllocError, Global};
+use std::mem;
 use std::sync::Wait;
 use std::thread::Threads;
+
+// What settling came to, and whether there was no memory.
+fn told(outcome: Result<Settled, AllocError>) -> (Option<Settled>, bool)
+    ensures { TellsSettled outcome result.0 result.1 }
+{
+    match outcome {
+        Ok(settled) => (Some(settled), false),
+        Err(_) => (None, true),
+    }
+}
 
 // Settles the index behind a run, if there was memory for all.
 fn settled<S: ObjectStore, L: SourceLog>(alloc: Global, end: RunEnd<S, L>) -> RunEnd<S, L>
@@ -34,14 +45,12 @@ fn settled<S: ObjectStore, L: SourceLog>(alloc: Global, end: RunEnd<S, L>) -> Ru
         logs,
         replies,
         ends,
-        settled: _,
+        settled: before,
         memory: _,
     } = end;
+    mem::drop(before);
     let (world, outcome) = settle(alloc, world);
-    let (settled, memory) = match outcome {
-        Ok(settled) => (Some(settled), false),
-        Err(_) => (None, true),
-    };
+    let (settled, memory) = told(outcome);
     RunEnd {
         world,
         logs,
