@@ -1,4 +1,8 @@
 pub mod Loops
+pub mod Jobs
+pub mod Ran
+pub mod Dealings
+pub mod Fronts
 pub mod Staffs
 pub mod Shares
 pub mod Beginnings

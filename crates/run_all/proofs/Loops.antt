@@ -1,5 +1,5 @@
 -- Loops over what a list gives, and what is gathered of it.
-use Rattle.std.proofs.Common.{◌≡◌, ◌+◌, ◌<◌, ◌≤◌, ℕ, zero, suc, List, [], ◌∷◌, ◌++◌, length, length-append, map, refl, sym, ap, ◌∙◌, subst, arith, append-nil, append_assoc}
+use Rattle.std.proofs.Common.{◌≡◌, ◌+◌, ◌<◌, ◌≤◌, ℕ, zero, suc, List, [], ◌∷◌, ◌++◌, length, length-append, map, refl, sym, ap, ◌∙◌, subst, arith, append-nil, append_assoc, get_or, take}
 use Rattle.std.specs.List.{AllByRecursion}
 use Rattle.std.proofs.lemmas.List.{map_push, nil_from_length}
 use Rattle.run_all.specs.Gathering.{gathered}
@@ -43,3 +43,14 @@ all_push P (y ∷ xs) x all p = (all.0, all_push P xs x all.1 p)
 pub mapped_twice : {A B C : Type 0} (f : A → B) (g : B → C) (xs : List A) → map g (map f xs) ≡ map (λ x. g (f x)) xs
 mapped_twice f g [] = refl
 mapped_twice f g (x ∷ xs) = ap (λ l. g (f x) ∷ l) (mapped_twice f g xs)
+
+-- of the first ones, one more
+pub all_take_more : {A : Type 0} (P : A → Type 0) (xs : List A) (i : ℕ) (x : A) → AllByRecursion P (take i xs) → i < length xs → x ≡ get_or xs i x → P x → AllByRecursion P (take (suc i) xs)
+all_take_more P [] i x all less is p = absurd (omega (arith, less))
+all_take_more P (y ∷ xs) zero x all less is p = (subst P is p, tt)
+all_take_more P (y ∷ xs) (suc i) x all less is p = (all.0, all_take_more P xs i x all.1 (omega (arith, less)) is p)
+
+pub all_take_all : {A : Type 0} (P : A → Type 0) (xs : List A) (i : ℕ) → AllByRecursion P (take i xs) → length xs ≤ i → AllByRecursion P xs
+all_take_all P [] i all le = tt
+all_take_all P (y ∷ xs) zero all le = absurd (omega (arith, le))
+all_take_all P (y ∷ xs) (suc i) all le = (all.0, all_take_all P xs i all.1 (omega (arith, le)))

@@ -47,7 +47,7 @@ module _ {A : Type 0} where
       let next = picked_next (suc place) i owner by x xs lists (omega (arith, at)) (omega (arith, within)) all.1 in
       (next.0, (all.0 ∙ other_pick place owner by x xs (λ e. omega (arith, e, at)), next.1))
 
-  rest_long : (lists : List (List A)) (i : ℕ) → length (rest_of lists i) ≡ length lists
+  pub rest_long : (lists : List (List A)) (i : ℕ) → length (rest_of lists i) ≡ length lists
   rest_long [] i = refl
   rest_long ([] ∷ lists) zero = refl
   rest_long ((y ∷ ys) ∷ lists) zero = refl

@@ -8,7 +8,7 @@ use Rattle.run_all.specs.Sharing.{turns_of}
 use Rattle.run_all.proofs.Picks.{other_pick, own_pick}
 use Rattle.run_all.proofs.Shares.{IsNext, next_ahead, next_behind, some_wait}
 
-abbrev coming_of : ℕ → ℕ → ℕ
+abbrev pub coming_of : ℕ → ℕ → ℕ
 coming_of count next = cond (eqb (suc next) count) 0 (suc next)
 
 coming_is : (count next : ℕ) → IsNext count next (coming_of count next)
@@ -18,7 +18,7 @@ coming_is count next = by_test (eqb (suc next) count) refl
     by_test true is = let last = eqb-true (suc next) count is in ((λ e. refl), (λ less. absurd (omega (arith, last, less))))
     by_test false is = ((λ e. absurd (eqb-false (suc next) count is e)), (λ less. refl))
 
-coming_within : (count next : ℕ) → next < count → coming_of count next < count
+pub coming_within : (count next : ℕ) → next < count → coming_of count next < count
 coming_within count next less = by_test (eqb (suc next) count) refl
   where
     by_test : (b : Bool) → eqb (suc next) count ≡ b → cond b 0 (suc next) < count

@@ -1,6 +1,6 @@
 -- The indexers with which a run begins.
-use Rattle.std.specs.Prelude.{◌≡◌, ℕ, suc, List, [], ◌∷◌, Option, Some, ⊤}
-use Rattle.byte_fields.specs.Causes.{Rose}
+use Rattle.std.specs.Prelude.{◌≡◌, ◌≤◌, ℕ, suc, List, [], ◌∷◌, Option, Some, ⊤}
+use Rattle.byte_fields.specs.Causes.{Rose, last_count}
 use Rattle.source_log.specs.Log.{Log, names_of}
 use Rattle.indexing_run.specs.Making.{IsAssigned}
 use Rattle.indexing_run.specs.declared.indexer.Indexer.{Indexer as Reader}
@@ -10,15 +10,17 @@ use Rattle.run_all.specs.declared.beginning.Begun.{Begun}
 use Rattle.run_all.specs.declared.beginning.Begun.TheVariants as begun
 
 module _ {L : Type 0} (told : L → Option Log) (count : L → ℕ) (since : L → L → Type 0) where
-  -- a later state of a log, which tells what the log told
+  -- a later state of a log, which tells what the log told, and whose count of faults is no lower
   pub record IsKept (first last : L) : Type 0 where
     pub later : since first last
+    pub counts : count first ≤ count last
     pub tells : (log : Log) → told first ≡ Some log → told last ≡ Some log
 
-  -- It is idle, and where its log tells, its partitions, which differ, are every so many of the log's, the first of them behind as many as its place says.
+  -- It is idle, its count of faults is one, and where its log tells, its partitions, which differ, are every so many of the log's, the first of them behind as many as its place says.
   pub record IsReadyFor (among place : ℕ) (first : L) (reader : Reader L) : Type 0 where
     pub kept : IsKept first reader.log
     pub idle : reader.place ≡ places.Idle
+    pub counted : count reader.log ≤ last_count
     pub names : (log : Log) → told first ≡ Some log → reader.assignment ≡ Some (every among place (names_of log))
     pub assigned : (log : Log) → told first ≡ Some log → IsAssigned reader.assignment
 

@@ -2,8 +2,8 @@
 use Rattle.std.specs.Prelude.{ℕ, suc, List, [], ◌∷◌}
 use Rattle.indexing_run.specs.declared.indexing.IndexerEnd.TheVariants as indexers
 use Rattle.run_all.specs.declared.outcome.Indexed.{Indexed}
-use Rattle.run_all.specs.declared.run.ActorEnd.{ActorEnd}
-use Rattle.run_all.specs.declared.run.ActorEnd.TheVariants as ends
+use Rattle.run_settle.specs.declared.end_lines.ActorEnd.{ActorEnd}
+use Rattle.run_settle.specs.declared.end_lines.ActorEnd.TheVariants as ends
 use Rattle.run_all.specs.declared.staffing.Post.{Post}
 use Rattle.run_all.specs.declared.staffing.Post.TheVariants as posts
 

@@ -1,4 +1,13 @@
+pub mod Gathering
 pub mod Sharing
 pub mod Beginning
 pub mod Picking
+pub mod Planning
+pub mod Staffing
+pub mod Outcome
+pub mod Ending
+pub mod Replying
+pub mod Replies
+pub mod Room
+pub mod Closing
 pub mod Made

@@ -6,8 +6,8 @@ use Rattle.run_all.specs.Gathering.{gathered}
 use Rattle.run_all.specs.declared.outcome.Indexed.{Indexed}
 use Rattle.run_all.specs.declared.outcome.Outcome.{Outcome}
 use Rattle.run_all.specs.declared.outcome.Served.{Served}
-use Rattle.run_all.specs.declared.run.ActorEnd.{ActorEnd}
-use Rattle.run_all.specs.declared.run.ActorEnd.TheVariants as ends
+use Rattle.run_settle.specs.declared.end_lines.ActorEnd.{ActorEnd}
+use Rattle.run_settle.specs.declared.end_lines.ActorEnd.TheVariants as ends
 
 module _ {L : Type 0} where
   -- an indexer that ended

@@ -34,3 +34,9 @@ module _ {L : Type 0} where
   is_short posts.Working = false
   is_short (posts.Failed log before after) = false
   is_short (posts.Short log) = true
+
+  -- its log
+  abbrev pub log_in : Begun L → L
+  log_in (begun.Ready reader) = reader.log
+  log_in (begun.Failed log before after) = log
+  log_in (begun.Short log) = log

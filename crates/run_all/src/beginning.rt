@@ -31,6 +31,8 @@ fn begin<L: SourceLog>(alloc: Global, log: L, count: usize, skipped: usize) -> B
         Ok(partitions) => {
             let mut indexer = Indexer::start(log);
             indexer.assign(partitions);
+            // The count of a log has its range.
+            let _count = indexer.log_faults();
             Begun::Ready(indexer)
         }
         Err(ReadError::Failed) => {

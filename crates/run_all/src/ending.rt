@@ -2,14 +2,14 @@
 
 ghost use Rattle.std.specs.Prelude.{◌≡◌, ◌+◌, ◌<◌, ◌≤◌, ◌^◌, ◌∷◌, [], ℕ, List, length, suc, vec_capacity, vec_len};
 ghost use Rattle.std.specs.Vec.Iter.{into_iter_items};
-ghost use Rattle.run_all.specs.declared.run.ActorEnd.TheVariants as kinds;
+ghost use Rattle.run_settle.specs.declared.end_lines.ActorEnd.TheVariants as kinds;
 ghost use Rattle.run_all.specs.Ending.{at_work, ends_from, logs_behind};
 
 use crate::filling::push_within;
 use crate::outcome::Indexed;
-use crate::run::ActorEnd;
 use crate::staffing::Post;
 use indexing_run::IndexerEnd;
+use run_settle::ActorEnd;
 use source_log::SourceLog;
 use std::vec::IntoIter;
 
@@ -49,6 +49,7 @@ pub fn ends_of<L: SourceLog>(
     requires room { (vec_len posts ≤ vec_capacity all.logs) × (vec_len posts ≤ vec_capacity all.ends) }
     ensures logs { result.logs.items ≡ logs_behind posts.items indexed.items }
     ensures ends { result.ends.items ≡ ends_from 0 posts.items indexed.items }
+    ensures long { (vec_len result.logs ≡ vec_len posts) × (vec_len result.ends ≡ vec_len posts) }
     ensures room { (vec_capacity all.logs ≤ vec_capacity result.logs) × (vec_capacity all.ends ≤ vec_capacity result.ends) }
 {
     let Ended { logs, ends } = all;

@@ -17,7 +17,8 @@ pub(crate) fn push_within<T: Drop>(all: &mut Vec<T>, one: T)
 /// Puts more behind the others, for which there is room.
 pub(crate) fn append_within<T: Drop>(all: &mut Vec<T>, more: Vec<T>)
     requires { vec_len all.old + vec_len more ≤ vec_capacity all.old }
-    ensures { all.new.items ≡ all.old.items ++ more.items }
+    ensures items { all.new.items ≡ all.old.items ++ more.items }
+    ensures room { vec_capacity all.old ≤ vec_capacity all.new }
 {
     let mut more = more;
     match all.append(&mut more) {

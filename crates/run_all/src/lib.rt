@@ -2,18 +2,21 @@
 #![tactic(auto)]
 
 mod beginning;
+mod closing;
 mod ending;
 mod filling;
-mod interim;
 mod outcome;
 mod planning;
 mod replying;
-mod run;
+mod room;
+mod run_end;
+mod running;
 mod sharing;
 mod staffing;
 mod turning;
 
 pub use beginning::{Begun, indexers_of};
-pub use interim::{print_actor_end, print_settled, run};
-pub use run::{ActorEnd, RunEnd, RunOptions, Settled};
+pub use planning::{Plan, planned};
+pub use run_end::{RunEnd, RunOptions};
+pub use running::run_unsettled;
 pub use sharing::shared_out;

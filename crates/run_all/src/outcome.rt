@@ -4,9 +4,9 @@ ghost use Rattle.std.specs.Prelude.{◌+◌, ℕ, vec_len};
 ghost use Rattle.run_all.specs.Outcome.{Adds, HasRoom, IsOutcome, Vacant};
 
 use crate::filling::push_within;
-use crate::run::ActorEnd;
 use indexing_run::{Indexer, IndexerEnd};
 use run_jobs::{Answered, Done};
+use run_settle::ActorEnd;
 use source_log::SourceLog;
 
 /// An indexer that ended.

@@ -1,4 +1,4 @@
-use Rattle.std.proofs.Common.{◌≡◌, ◌∙◌, List, ℕ, ap, subst, sym}
+use Rattle.std.proofs.Common.{◌≡◌, ◌≤◌, ◌∙◌, List, ℕ, ap, arith, subst, sym}
 use Rattle.std.specs.Prelude.{None, Some}
 use Rattle.source_log.specs.Log.{IsToldLog, Log}
 use Rattle.indexing_run.specs.Making.{IsAssigned}
@@ -21,9 +21,11 @@ returns-in-Ok g c =
     record {
       kept = record {
         later = subst (t.since c.args.log) (sym (c.assign.ensures.log ∙ c.start-indexer.ensures.log)) c.in-Ok.ensures.later;
+        counts = subst (λ (log : g.row.L.Denot). t.fault_count c.args.log ≤ t.fault_count log) (sym (c.assign.ensures.log ∙ c.start-indexer.ensures.log)) c.in-Ok.ensures.cause.later;
         tells = λ read tells. (stands read tells).told;
       };
       idle = c.assign.ensures.place ∙ c.start-indexer.ensures.idle;
+      counted = omega (arith, c.log_faults-count.ensures, c.log_faults-count.type_inv);
       names = λ read tells. (stands read tells).assignment ∙ ap (λ n. Some n) (c.in-Ok.ensures.names read tells);
       assigned = λ read tells. subst IsAssigned (sym (stands read tells).assignment) (apart read tells);
     }

@@ -2,7 +2,7 @@ use Rattle.std.proofs.Common.{◌≡◌, ◌∙◌, ◌+◌, ◌≤◌, ◌∷�
 use Rattle.std.proofs.lemmas.List.{nil_from_length}
 use Rattle.std.specs.Vec.Iter.{into_iter_items}
 use Rattle.run_all.specs.Ending.{at_work, ends_from, logs_behind}
-use Rattle.run_all.specs.declared.run.ActorEnd.TheVariants as kinds
+use Rattle.run_settle.specs.declared.end_lines.ActorEnd.TheVariants as kinds
 use Rattle.run_all.specs.declared.staffing.Post.{Post}
 use Rattle.run_all.proofs.Loops.{one_given, pushed_long}
 use Rattle.run_all.proofs.Staffs.{work_cons}

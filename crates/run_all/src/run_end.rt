@@ -1,14 +1,11 @@
 //! A run: what is handed in, and what comes back.
 
 use clock_time::ScriptClock;
-use index_world::{World, WorldError};
-use indexing_run::IndexerEnd;
-use meta_store::Refusal;
+use index_world::World;
 use object_store::ObjectStore;
+use run_settle::{ActorEnd, Settled};
 use search_api::Reply;
 use source_log::SourceLog;
-use split_collector::CollectorEnd;
-use upkeep_run::WorkerEnd;
 
 /// How many actors of each kind work, how many steps a merger, a delete worker and a collector take at most, and whether the index is
 /// settled behind them.
@@ -18,26 +15,6 @@ pub struct RunOptions {
     pub searchers: usize,
     pub turns: u64,
     pub settle: bool,
-}
-
-/// The last outcome of an actor. An indexer has its place among the indexers.
-#[derive(Drop)]
-pub enum ActorEnd {
-    Indexer(usize, IndexerEnd),
-    Merger(WorkerEnd),
-    Deleter(WorkerEnd),
-    Collector(CollectorEnd),
-}
-
-/// What settling came to.
-#[derive(Drop)]
-pub enum Settled {
-    /// There was nothing more to do.
-    Whole,
-    /// A limit stands against its Stage.
-    Refused(Refusal),
-    /// A call of the world failed.
-    Fault(WorldError),
 }
 
 /// What comes back of a run.

@@ -1,0 +1,4 @@
+pub mod Says
+pub mod Ends
+pub mod Replies
+pub mod Did

@@ -1,0 +1,2 @@
+pub mod RunAll
+pub mod Settled

@@ -1,0 +1,9 @@
+use Rattle.std.proofs.Common.{refl}
+use Rattle.index_world.specs.World.{WorldStands}
+use Rattle.shared_gate.specs.Recording.{Begun}
+use Rattle.run_laws.proofs.Called.{are_called, as_many}
+use Rattle.run_laws.proofs.laws.calls_are_seen.Goals as goal
+
+pub returns : goal.returns
+returns g c = λ opened source events log first last exit places made linked told stands ends on at.
+    (are_called (Begun g.M.SourceLog.told opened source) log ((first, stands), told) first last exit opened events linked stands ends on places made at, as_many events places made at)

@@ -1,0 +1,6 @@
+pub mod Meanwhile
+pub mod ClientReplies
+pub mod Ends
+pub mod SearcherReplies
+pub mod JobSays
+pub mod Calm

@@ -1,0 +1,23 @@
+-- What the clients of a searcher were replied, by the journal at the end alone.
+use Rattle.std.specs.Prelude.{◌≡◌, ℕ, Bool, false, List, length, take}
+use Rattle.std.specs.List.{AllZip}
+use Rattle.index_config.specs.declared.config.IndexConfig.{IndexConfig}
+use Rattle.meta_journal.specs.declared.entry.Entry.{Entry}
+use Rattle.source_log.specs.Log.{Log}
+use Rattle.index_world.specs.Core.{Core}
+use Rattle.run_jobs.specs.declared.clients.Answered.{Answered}
+use Rattle.run_plan.specs.declared.clients.Asking.{Asking}
+use Rattle.run_laws.specs.ClientReplies.{ClientReplies}
+
+-- Over these entries of the journal at exit, of which there were so many at entry. From the one core to the other all worked.
+module _ (config : IndexConfig) (log : Log) (entries : List Entry) (least : ℕ) (core exit : Core) where
+  -- Its texts have one reply each; or there was no memory, and the first ones of them have.
+  pub record ClientAnswered (asking : Asking) (answered : Answered) : Type 0 where
+    pub client : answered.client ≡ asking.client
+    pub replies : ClientReplies config log entries least core exit asking.client 0 (take (length answered.replies.items) asking.texts.items) answered.replies.items
+    pub all : answered.short ≡ false → length answered.replies.items ≡ length asking.texts.items
+
+  -- WHAT A SEARCHER ANSWERED: each of its clients; or there was no memory, and the first ones of them.
+  pub record SearcherAnswered (askings : List Asking) (answered : List Answered) (short : Bool) : Type 0 where
+    pub each : AllZip ClientAnswered (take (length answered) askings) answered
+    pub all : short ≡ false → length answered ≡ length askings

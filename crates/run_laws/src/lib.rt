@@ -1,0 +1,6 @@
+//! What a run's replies and ends say, by the journal at its exit.
+#![tactic(auto)]
+
+mod laws;
+
+pub use laws::{calls_are_seen, calm_says, job_says};

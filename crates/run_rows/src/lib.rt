@@ -1,0 +1,5 @@
+//! Rows that are tests: of runs in threads.
+#![tactic(auto)]
+
+#[cfg(test)]
+mod runs;

@@ -1,0 +1,11 @@
+pub mod Keeping
+pub mod Unasked
+pub mod Appending
+pub mod Crowding
+pub mod AtRest
+pub mod RestSteps
+pub mod Resting
+pub mod RestAll
+pub mod Frozen
+pub mod EndTexts
+pub mod Wholly
