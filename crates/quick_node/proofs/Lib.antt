@@ -1,6 +1,7 @@
 pub mod Feeding
 pub mod Asking
 pub mod SaidLines
+pub mod RunEnds
 pub mod RequestsInOneWay
 pub mod Written
 pub mod Opened

@@ -36,7 +36,7 @@ use command_words::{Command, RunOptions as RunAsked, read_words};
 use index_world::{Unopened, World};
 use node_run::{DriveNode, Logs, Unstarted};
 use object_store::ObjectStore;
-use run_front::RunOptions;
+use run_all::RunOptions;
 use run_plan::Request;
 use source_log::SourceLog;
 use std::alloc::Global;

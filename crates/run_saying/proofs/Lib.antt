@@ -1,2 +1,6 @@
-pub mod Lines
+mod AskedTexts
+mod JsonTexts
+mod JsonTokens
+pub mod RunEnds
+pub mod SaidLines
 mod Written

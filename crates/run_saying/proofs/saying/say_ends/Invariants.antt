@@ -1,8 +1,8 @@
 use Rattle.std.proofs.Common.{◌≡◌, ◌≤◌, ℕ, List, drop, take, flat_map}
 use Rattle.std.specs.List.{AllByRecursion}
 use Rattle.std.specs.Prelude.{Some, IsSome, option_to_list}
-use Rattle.run_front.specs.EndLines.{end_text}
-use Rattle.run_saying.proofs.Lines.{HasSaid}
+use Rattle.run_settle.specs.EndLines.{end_text}
+use Rattle.run_saying.proofs.SaidLines.{HasSaid}
 use Rattle.run_saying.specs.Runs.{with_feeds}
 use Rattle.run_saying.proofs.saying.say_ends.Given as goal
 

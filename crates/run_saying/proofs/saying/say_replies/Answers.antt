@@ -2,7 +2,7 @@ use Rattle.std.proofs.Common.{◌+◌, ◌++◌, [], ◌∷◌, ◌∙◌, ap, a
 use Rattle.std.specs.Prelude.{Some}
 use Rattle.std.proofs.lemmas.List.{drop_all}
 use Rattle.search_api.specs.Replies.{reply_text}
-use Rattle.run_saying.proofs.Lines.{HasSaid, all_said, next_line, none_said, one_more, said_front, some_more, wrote_front}
+use Rattle.run_saying.proofs.SaidLines.{HasSaid, all_said, next_line, none_said, one_more, said_front, some_more, wrote_front}
 use Rattle.run_saying.specs.Runs.{with_feeds}
 use Rattle.run_saying.specs.Serve.{IsPrefixOf}
 use Rattle.run_saying.proofs.saying.say_replies.Goals as goal

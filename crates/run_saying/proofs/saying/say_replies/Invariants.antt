@@ -1,7 +1,7 @@
 use Rattle.std.proofs.Common.{◌≡◌, ◌≤◌, ℕ, List, drop, map}
 use Rattle.std.specs.Prelude.{Some}
 use Rattle.search_api.specs.Replies.{reply_text}
-use Rattle.run_saying.proofs.Lines.{HasSaid}
+use Rattle.run_saying.proofs.SaidLines.{HasSaid}
 use Rattle.run_saying.specs.Runs.{with_feeds}
 use Rattle.run_saying.proofs.saying.say_replies.Given as goal
 
