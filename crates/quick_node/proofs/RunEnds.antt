@@ -1,5 +1,5 @@
 -- The ends of a run's actors, over the logs and over their counts.
-use Rattle.std.proofs.Common.{◌≡◌, ℕ, suc, List, [], ◌∷◌, map, Type, ap, subst, refl}
+use Rattle.std.proofs.Common.{◌≡◌, ℕ, zero, suc, List, [], ◌∷◌, map, ap, subst, refl}
 use Rattle.std.specs.List.{AllByRecursion}
 use Rattle.std.specs.Prelude.{take}
 use Rattle.index_config.specs.declared.config.IndexConfig.{IndexConfig}
@@ -11,12 +11,12 @@ use Rattle.run_settle.specs.declared.end_lines.ActorEnd.{ActorEnd}
 use Rattle.run_settle.specs.declared.end_lines.ActorEnd.TheVariants as ends
 
 pub all_in_front : {X : Type 0} (P : X → Type 0) (n : ℕ) (xs : List X) → AllByRecursion P xs → AllByRecursion P (take n xs)
-all_in_front P 0 xs h = tt
+all_in_front P zero xs h = tt
 all_in_front P (suc n) [] h = tt
 all_in_front P (suc n) (x ∷ xs) h = (h.0, all_in_front P n xs h.1)
 
 pub front_of_map : {X Y : Type 0} (f : X → Y) (n : ℕ) (xs : List X) → map f (take n xs) ≡ take n (map f xs)
-front_of_map f 0 xs = refl
+front_of_map f zero xs = refl
 front_of_map f (suc n) [] = refl
 front_of_map f (suc n) (x ∷ xs) = ap (λ ys. f x ∷ ys) (front_of_map f n xs)
 

@@ -64,4 +64,3 @@ mod CausedReports
 mod Unread
 mod Finding
 mod Quiet
-pub mod RunClause

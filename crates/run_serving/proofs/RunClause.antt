@@ -89,96 +89,11 @@ module _ (asked : Asked) (history : List Entry) (before : Before) (after : After
       inl (ap reading_status (requests_in_one_way before.input w.0 requests end read live' live w.1.reads reads).1)
   exact_run calm no_index text did some requests read live reads = absurd (not_none history before fresh (record fresh { core = last }) is some did.0)
   exact_run calm (opening_failed low high) text did some requests read live reads =
-      absurd (not_faulted history before fresh (record fresh { core = last }) is after shown.store_count calm (store_fault low high) did.0)
+      absurd (not_faulted history before after fresh (record fresh { core = last }) is shown.store_count calm (store_fault low high) did.0)
   exact_run calm write_failed text did some requests read live reads = absurd (still_not_failed before.write_faults after.write_faults calm.output did.1)
   exact_run calm out_of_memory text did some requests read live reads = inr refl
 
 -- ---- the clause
 
--- the journal at entry is a front of that of a core to which the index was opened and went on
-pub opened_on : (history : List Entry) (before : Before) (fresh : Node) → IsFresh before history fresh → (last : Core) → (Came : Core → Type 0) → Opened fresh last Came → IsPrefixOf history (journal_of last)
-opened_on history before fresh is last Came o =
-    prefix_on history last.history (journal_of last)
-    (prefix_on history o.node.core.history last.history
-    (subst (λ h. IsPrefixOf h o.node.core.history) (ap (λ n. n.core.history) is.is) (opens_moves fresh (Ok tt) o.node o.opens).later.grows) o.goes_on.grown)
-    (unread_front last.history last.standing)
-
-pub unopened_on : (history : List Entry) (before : Before) (fresh : Node) → IsFresh before history fresh → (last : Core) (answer : Result ⊤ Unread) → Opens fresh answer (record fresh { core = last }) → IsPrefixOf history (journal_of last)
-unopened_on history before fresh is last answer o =
-    prefix_on history last.history (journal_of last)
-    (subst (λ h. IsPrefixOf h last.history) (ap (λ n. n.core.history) is.is) (opens_moves fresh answer (record fresh { core = last }) o).later.grows)
-    (unread_front last.history last.standing)
-
-pub untouched_on : (history : List Entry) (before : Before) (fresh : Node) → IsFresh before history fresh → (last : Core) → last ≡ fresh.core → IsPrefixOf history (journal_of last)
-untouched_on history before fresh is last same =
-    subst (λ h. IsPrefixOf h (journal_of last)) (ap (λ (c : Core). c.history) same ∙ ap (λ n. n.core.history) is.is) (unread_front last.history last.standing)
-
-did_on : (asked : Asked) (history : List Entry) (before : Before) (after : After) (fresh : Node) → IsFresh before history fresh → (last : Core) (text : List ℕ) (end : End) →
-    Did (options_of asked) before after fresh last text end → IsPrefixOf history (journal_of last)
-did_on asked history before after fresh is last text (by_reading end) did = opened_on history before fresh is last _ did
-did_on asked history before after fresh is last text no_index did = unopened_on history before fresh is last (Err calls.no_index) did.0
-did_on asked history before after fresh is last text (opening_failed low high) did = unopened_on history before fresh is last _ did.0
-did_on asked history before after fresh is last text write_failed did = opened_on history before fresh is last _ did.0
-did_on asked history before after fresh is last text out_of_memory (inl none) = untouched_on history before fresh is last none.0
-did_on asked history before after fresh is last text out_of_memory (inr (inl none)) = unopened_on history before fresh is last _ none.0
-did_on asked history before after fresh is last text out_of_memory (inr (inr did)) = opened_on history before fresh is last _ did
-
--- the objects behind the call tell it
-module _ {S L R W : Type 0} (told : S → Option State) (count : S → ℕ) (log_count : L → ℕ) (since : L → L → Type 0) (left : R → Option (List ℕ)) (read_count : R → ℕ) (taken : W → Option (List ℕ)) (write_count : W → ℕ) where
-  abbrev pub after_of : (kept : State) (store_faults : ℕ) (lasts : List L) (input : R) (written : List ℕ) (output : W) → After
-  after_of kept store_faults lasts input written output =
-      record {
-        kept = kept;
-        store_faults = store_faults;
-        log_faults = map log_count lasts;
-        left = left input;
-        read_faults = read_count input;
-        written = written;
-        write_faults = write_count output;
-      }
-
-  pub run_returned : (asked : Asked) (history : List Entry) (before : Before) (fresh : Node) (last : Core) → IsFresh before history fresh → IsLog before.log →
-      (store : S) (store_faults log_faults status : ℕ) (firsts lasts : List L) (input : R) (output : W) (kept : State) →
-      told store ≡ Some kept → store_faults ≡ count store → IsWorld kept last before.log → last.store_faults ≡ count store →
-      AllZip since firsts lasts → log_faults ≡ min (sum (map log_count lasts)) last_count → (end : End) (text : List ℕ) → taken output ≡ Some (before.written ++ text) →
-      status ≡ status_of end → Did (options_of asked) before (after_of kept (count store) lasts input (before.written ++ text) output) fresh last text end →
-      (after : After) × ShowsAfter told count log_count since left read_count taken write_count store store_faults log_faults firsts input output after × Runs asked history before after status
-      × GivesLogs log_count since firsts lasts after.log_faults
-  run_returned asked history before fresh last is is_log store store_faults log_faults status firsts lasts input output kept tells reported world counts later sums end text written status_is did = (
-    after,
-    record { kept = tells; store_count = refl; reported = reported; let_go = let_go; left_is = refl; read_faults = refl; written = written; write_faults = refl },
-    record {
-      end = end;
-      status_is = status_is;
-      text = text;
-      written = refl;
-      exit = journal_of last;
-      index = world.index;
-      goes_on = on;
-      once = holds_once kept (journal_of last) before.log is_log world.index;
-      always = λ revision. covers_at revision (journal_of last) before.log is_log world.index.stands.legal;
-      left = are_left kept (journal_of last) before.log world.index;
-      configured = configured_on history (journal_of last) on world.index.stands.legal;
-      fresh = fresh;
-      is_fresh = is;
-      last = last;
-      shown = shown;
-      exit_is = refl;
-      did = did;
-      exact = λ calm some requests read live reads.
-          subst (λ s. (s ≡ reading_status read) ⊎ (s ≡ 11)) (sym status_is) (exact_run asked history before after fresh last is shown calm end text did some requests read live reads);
-    },
-    record { later = later; counts_are = refl },
-  )
-    where
-      after : After
-      after = after_of kept (count store) lasts input (before.written ++ text) output
-
-      shown : IsShown after last
-      shown = record { store_count = counts; stands = world.stands_for }
-
-      on : IsPrefixOf history (journal_of last)
-      on = did_on asked history before after fresh is last text end did
-
-      let_go : LetGo log_count since firsts (map log_count lasts) log_faults
-      let_go = record { lasts = lasts; later = later; counts_are = refl; sum_is = sums }
+grown_on : (core last : Core) → GoesFor _ core last → IsPrefixOf core.history last.history
+grown_on core last g = g.grown

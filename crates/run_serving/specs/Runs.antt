@@ -7,22 +7,25 @@ use Rattle.command_words.specs.declared.command.Command.TheVariants.{Run}
 use Rattle.command_words.specs.declared.run.RunOptions.{RunOptions as Asked}
 use Rattle.index_config.specs.declared.config.IndexConfig.{IndexConfig}
 use Rattle.meta_journal.specs.declared.entry.Entry.{Entry}
+use Rattle.source_log.specs.Log.{Log}
 use Rattle.search_api.specs.Replies.{reply_text}
 use Rattle.search_api.specs.declared.reply.Reply.{Reply}
 use Rattle.index_world.specs.Calls.{faulted, no_memory, store_fault, not_read}
 use Rattle.index_world.specs.Calls as calls
-use Rattle.index_world.specs.Configuration.{config_or, configuration}
+use Rattle.index_world.specs.Configuration.{configuration}
 use Rattle.index_world.specs.Core.{Core, Nobody, journal_of}
 use Rattle.index_world.specs.Index.{IsIndexOf}
 use Rattle.index_world.specs.Standing.{IsCoreOf}
 use Rattle.index_world.specs.World.{GoesFor}
 use Rattle.node_run.specs.Node.{Node}
 use Rattle.run_plan.specs.declared.clients.Request.{Request}
-use Rattle.run_front.specs.EndLines.{end_text, settled_text}
-use Rattle.run_front.specs.RunAll.{RunSaid}
-use Rattle.run_front.specs.declared.run_end.ActorEnd.{ActorEnd}
-use Rattle.run_front.specs.declared.run_end.RunOptions.{RunOptions}
-use Rattle.run_front.specs.declared.run_end.Settled.{Settled}
+use Rattle.run_all.specs.Replies.{RepliesFrom}
+use Rattle.run_all.specs.declared.run_end.RunOptions.{RunOptions}
+use Rattle.run_did.specs.RunAll.{EndsAre, IsSettled}
+use Rattle.run_laws.specs.ClientReplies.{IsReplyTo}
+use Rattle.run_settle.specs.EndLines.{end_text, settled_text}
+use Rattle.run_settle.specs.declared.end_lines.ActorEnd.{ActorEnd}
+use Rattle.run_settle.specs.declared.settling.Settled.{Settled}
 use Rattle.run_serving.specs.Once.{HoldsOnce, CoversAt, AreLeft}
 use Rattle.run_serving.specs.Reading.{max_clients, max_input, max_line}
 use Rattle.run_serving.specs.Requests.{HasRead, IsFault, Reads, max_requests}
@@ -99,11 +102,20 @@ with_feeds (line ∷ lines) = line ++ (10 ∷ with_feeds lines)
 abbrev pub said_text : Said → List ℕ
 said_text said = with_feeds (said_lines said)
 
+-- A run from the one core to the other, of an index under this configuration, over this log, said this to these requests; the counts of the logs' faults
+-- were and are these. Each request has its reply, each actor its end, and settling what it came to.
+pub record RunSays (config : IndexConfig) (log : Log) (core exit : Core) (options : RunOptions) (firsts lasts : List ℕ) (requests : List Request) (said : Said) : Type 0 where
+  pub replies : RepliesFrom (IsReplyTo config log exit.history (length core.history) core exit) [] requests said.replies
+  pub ends : EndsAre config log exit.history (length core.history) core exit options.turns (λ count. count) options.indexers 0 (take options.indexers firsts) lasts said.ends
+  pub settled : IsSettled options.settle said.settled core exit
+
 -- Of an opened index a run was made, between these cores, by the requests of the whole input, and it said this.
 pub record Ran (options : RunOptions) (before : Before) (after : After) (opened last : Core) (said : Said) : Type 0 where
+  pub config : IndexConfig
+  pub configured : configuration opened.history ≡ Some config
   pub requests : List Request
   pub read : HasRead before.input after.left requests reads.Whole
-  pub says : RunSaid (config_or (configuration opened.history)) before.log opened last options before.log_faults after.log_faults requests said.replies said.ends said.settled
+  pub says : RunSays config before.log opened last options before.log_faults after.log_faults requests said
 
 -- the reading ended so, and the index is as its opening left it
 pub record Unread (before : Before) (after : After) (opened last : Core) (text : List ℕ) (end : ReadEnd) : Type 0 where

@@ -2,17 +2,17 @@
 use Rattle.std.specs.Prelude.{◌≡◌, ◌⊎◌, ℕ, List, [], ◌++◌, map, Option, Some, None, IsSome, Result, Ok, Err, ⊤}
 use Rattle.std.specs.List.{AllByRecursion}
 use Rattle.byte_fields.specs.Causes.{Rose}
+use Rattle.index_config.specs.declared.config.IndexConfig.{IndexConfig}
 use Rattle.object_store.specs.Store.{State}
 use Rattle.source_log.specs.Log.{Log}
-use Rattle.index_world.specs.Configuration.{config_or, configuration}
+use Rattle.index_world.specs.Configuration.{configuration}
 use Rattle.index_world.specs.Core.{Core, Nobody}
 use Rattle.index_world.specs.World.{GoesFor, IsWorld}
 use Rattle.run_plan.specs.declared.clients.Request.{Request}
-use Rattle.run_front.specs.EndLines.{end_text}
-use Rattle.run_front.specs.RunAll.{RunSaid}
-use Rattle.run_front.specs.declared.run_end.RunOptions.{RunOptions}
+use Rattle.run_all.specs.declared.run_end.RunOptions.{RunOptions}
+use Rattle.run_settle.specs.EndLines.{end_text}
 use Rattle.run_serving.specs.Ending.{ended_status}
-use Rattle.run_serving.specs.Runs.{Said, said_text}
+use Rattle.run_serving.specs.Runs.{RunSays, Said, said_text}
 use Rattle.run_serving.specs.Serve.{IsPrefixOf}
 use Rattle.run_serving.specs.declared.error_line.End.{End as Ended}
 use Rattle.run_serving.specs.declared.error_line.End.TheVariants as ended
@@ -83,7 +83,7 @@ pub record RunsOn (options : RunOptions) (log : Log) (firsts lasts : List ℕ) (
   pub faults : count ≡ exit.store_faults
   pub text : List ℕ
   pub written : content ≡ Some (held ++ text)
-  pub says : SaysSome (λ said. RunSaid (config_or (configuration core.history)) log core exit options firsts lasts requests said.replies said.ends said.settled) text end
+  pub says : SaysSome (λ said. (config : IndexConfig) × (configuration core.history ≡ Some config) × RunSays config log core exit options firsts lasts requests said) text end
 
 -- the same, and then the last line of that end, which is nothing
 pub record RanOn (options : RunOptions) (log : Log) (firsts lasts : List ℕ) (core : Core) (requests : List Request) (told : Option State) (count : ℕ)

@@ -5,7 +5,6 @@ ghost use Rattle.index_world.specs.Saying.{with_words};
 ghost use Rattle.run_serving.specs.Ending.{opening_status as status_of_opening, making_status as status_of_making, ended_status, limit_words, cause_words, last_line};
 
 const MAX_CONFIG: usize = 1_048_576;
-
 use crate::lines::{MAX_INPUT, MAX_LINE};
 use crate::requests::MAX_REQUESTS;
 use byte_fields::Bytes;

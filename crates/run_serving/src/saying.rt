@@ -6,7 +6,7 @@ ghost use Rattle.search_api.specs.Replies.{reply_text};
 ghost use Rattle.source_log.specs.Log.{IsLog, Log};
 ghost use Rattle.index_world.specs.Core.{Core};
 ghost use Rattle.index_world.specs.World.{WorldStands};
-ghost use Rattle.run_front.specs.EndLines.{end_text, settled_text};
+ghost use Rattle.run_settle.specs.EndLines.{end_text, settled_text};
 ghost use Rattle.run_serving.specs.Runs.{with_feeds};
 ghost use Rattle.run_serving.specs.Saying.{EndsSaying, IsUnsaid, RunsOn, SaysUpTo, WroteSo};
 
@@ -15,7 +15,7 @@ use byte_fields::Sink;
 use clock_time::{Clock, ScriptClock};
 use index_world::World;
 use object_store::ObjectStore;
-use run_front::RunOptions;
+use run_all::RunOptions;
 use run_plan::Request;
 use source_log::SourceLog;
 use std::alloc::{AllocError, Global};
@@ -78,11 +78,7 @@ pub fn finish<
     mem::drop(clock);
     mem::drop(requests);
     let (store, _) = world.unload();
-    let mut finished = Finished {
-        end: End::Memory,
-        store,
-        logs,
-    };
+    let mut finished = Finished { end: End::Memory, store, logs };
     for _ in rt.forever() {
         finished.end = End::Memory;
     }

@@ -32,7 +32,7 @@ use command_words::RunOptions as RunAsked;
 use index_world::{Unopened, World};
 use node_run::Logs;
 use object_store::ObjectStore;
-use run_front::RunOptions;
+use run_all::RunOptions;
 use run_plan::Request;
 use source_log::SourceLog;
 use std::alloc::Global;
@@ -284,3 +284,4 @@ fn run_index<
         }
     }
 }
+

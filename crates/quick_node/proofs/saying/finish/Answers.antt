@@ -1,7 +1,7 @@
-use Rattle.std.proofs.Common.{◌≡◌, ◌++◌, ◌×◌, ◌∙◌, [], append-nil, ap, inl, inr, refl, sym, subst, ℕ, List, length, map}
+use Rattle.std.proofs.Common.{◌≡◌, ◌++◌, ◌∙◌, [], append-nil, ap, inl, inr, refl, sym, subst, ℕ, List, length, map}
 use Rattle.std.specs.Prelude.{Option, Some}
 use Rattle.index_config.specs.declared.config.IndexConfig.{IndexConfig}
-use Rattle.index_world.specs.Configuration.{configuration}
+use Rattle.index_world.specs.Core.{IsConfigured}
 use Rattle.quick_node.proofs.AskedTexts.{asked_utf8}
 use Rattle.quick_node.proofs.RunEnds.{all_in_front, counted_ends}
 use Rattle.quick_node.proofs.SaidLines.{says_none, says_by}
@@ -21,7 +21,7 @@ returns-clause-ran g c core log held is_log stands told at =
     let configured = c.config-config.ensures.step core log stands in
     let did = c.run-world.ensures.ran config core log is_log stands configured (asked_utf8 config) (all_in_front (λ own. g.L.SourceLog.told own ≡ Some log) options.indexers logs told) in
     let Holds : Said → Type 0 = λ said.
-    (config : IndexConfig) × (configuration core.history ≡ Some config) × RunSays config log core did.exit options (map count logs) (map count end.logs.items) c.args.requests.items said in
+    (config : IndexConfig) × IsConfigured config core × RunSays config log core did.exit options (map count logs) (map count end.logs.items) c.args.requests.items said in
     let wrote : (text : List ℕ) × (g.W.Sink.content c.if-memory.output ≡ Some (held ++ text)) × SaysSome Holds text c.if-memory.end =
     elim c.if-memory.branch [
       | then-memory w ↦ ([], ap g.W.Sink.content w.output-is ∙ at ∙ ap Some (sym (append-nil held)), says_none Holds c.if-memory.end w.end-is)
