@@ -95,11 +95,11 @@ run_line ended.ReadFault end is = sym (ap error_of is)
 run_line ended.WriteFault end is = sym (ap error_of is)
 run_line ended.Memory end is = sym (ap error_of is)
 
-fault_line : (a b : ℕ) → last_line (ended.NotOpened (errors.StoreFault a b)) ≡ error_of (opening_failed a b)
+pub fault_line : (a b : ℕ) → last_line (ended.NotOpened (errors.StoreFault a b)) ≡ error_of (opening_failed a b)
 unfolding digits
 fault_line a b = refl
 
-none_line : last_line (ended.NotOpened errors.NoIndex) ≡ error_of no_index
+pub none_line : last_line (ended.NotOpened errors.NoIndex) ≡ error_of no_index
 unfolding digits
 none_line = refl
 
@@ -123,7 +123,7 @@ front_none [] rest e = refl
 front_none (c ∷ cs) rest e = cc
 
 -- of no line nothing is written
-silent : (low high : ℕ) (piece : List ℕ) → WroteLine low high [] piece → piece ≡ []
+pub silent : (low high : ℕ) (piece : List ℕ) → WroteLine low high [] piece → piece ≡ []
 silent low high piece (inl e) = e
 silent low high piece (inr w) = let rest = w.1 in front_none piece rest.0 rest.1
 

@@ -67,3 +67,5 @@ mod CausedReports
 mod Unread
 mod Finding
 mod Quiet
+pub mod RunClause
+pub mod RunFound

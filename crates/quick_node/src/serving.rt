@@ -311,6 +311,7 @@ fn unused<S: ObjectStore, L: SourceLog, W: Sink>(
     ensures store { S.told result.0.store ≡ world.told }
     ensures store_faults { (result.0.store_faults ≡ S.fault_count result.0.store) × (S.fault_count result.0.store ≡ world.store_faults) }
     ensures logs { logs_in result.1 ≡ logs.items }
+    ensures later { AllZip L.since logs.items (logs_in result.1) }
     ensures log_sum { result.0.log_faults ≡ min (sum (map L.fault_count (logs_in result.1))) last_count }
     ensures counted { W.fault_count output.old ≤ W.fault_count output.new }
     ensures status { (result.0.status ≡ ended_status end) ⊎ (result.0.status ≡ 11) }
@@ -379,7 +380,7 @@ fn run_world<
     requires indexers { (1 ≤ options.indexers) × (options.indexers ≤ 64) × (options.indexers ≤ length logs.items) }
     requires searchers { (1 ≤ options.searchers) × (options.searchers ≤ 64) }
     ensures runs { (asked : RunWords) (history : List Entry) (before : Before) (fresh opened : Node) → options ≡ options_of asked → IsFresh before history fresh → Opens fresh (Ok tt) opened →
-        WorldStands world opened.core before.log → IsLog before.log → LogsShow L.told L.fault_count logs.items before →
+        fresh.core.store_faults ≤ opened.core.store_faults → WorldStands world opened.core before.log → IsLog before.log → LogsShow L.told L.fault_count logs.items before →
         StreamsShow R.left R.fault_count W.content W.fault_count input.old output.old before →
         Returns S.told S.fault_count L.fault_count L.since R.left R.fault_count W.content W.fault_count result.0.store result.0.store_faults result.0.log_faults
         logs.items (logs_in result.1) input.new output.new (λ after. Runs asked history before after result.0.status) }

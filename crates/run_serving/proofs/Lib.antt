@@ -64,3 +64,5 @@ mod CausedReports
 mod Unread
 mod Finding
 mod Quiet
+pub mod RunClause
+pub mod RunFound

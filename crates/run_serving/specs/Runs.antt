@@ -13,7 +13,7 @@ use Rattle.search_api.specs.declared.reply.Reply.{Reply}
 use Rattle.index_world.specs.Calls.{faulted, no_memory, store_fault, not_read}
 use Rattle.index_world.specs.Calls as calls
 use Rattle.index_world.specs.Configuration.{configuration}
-use Rattle.index_world.specs.Core.{Core, Nobody, journal_of}
+use Rattle.index_world.specs.Core.{Core, IsConfigured, Nobody, journal_of}
 use Rattle.index_world.specs.Index.{IsIndexOf}
 use Rattle.index_world.specs.Standing.{IsCoreOf}
 use Rattle.index_world.specs.World.{GoesFor}
@@ -112,7 +112,7 @@ pub record RunSays (config : IndexConfig) (log : Log) (core exit : Core) (option
 -- Of an opened index a run was made, between these cores, by the requests of the whole input, and it said this.
 pub record Ran (options : RunOptions) (before : Before) (after : After) (opened last : Core) (said : Said) : Type 0 where
   pub config : IndexConfig
-  pub configured : configuration opened.history ≡ Some config
+  pub configured : IsConfigured config opened
   pub requests : List Request
   pub read : HasRead before.input after.left requests reads.Whole
   pub says : RunSays config before.log opened last options before.log_faults after.log_faults requests said

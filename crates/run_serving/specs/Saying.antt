@@ -5,8 +5,7 @@ use Rattle.byte_fields.specs.Causes.{Rose}
 use Rattle.index_config.specs.declared.config.IndexConfig.{IndexConfig}
 use Rattle.object_store.specs.Store.{State}
 use Rattle.source_log.specs.Log.{Log}
-use Rattle.index_world.specs.Configuration.{configuration}
-use Rattle.index_world.specs.Core.{Core, Nobody}
+use Rattle.index_world.specs.Core.{Core, IsConfigured, Nobody}
 use Rattle.index_world.specs.World.{GoesFor, IsWorld}
 use Rattle.run_plan.specs.declared.clients.Request.{Request}
 use Rattle.run_all.specs.declared.run_end.RunOptions.{RunOptions}
@@ -83,7 +82,7 @@ pub record RunsOn (options : RunOptions) (log : Log) (firsts lasts : List ℕ) (
   pub faults : count ≡ exit.store_faults
   pub text : List ℕ
   pub written : content ≡ Some (held ++ text)
-  pub says : SaysSome (λ said. (config : IndexConfig) × (configuration core.history ≡ Some config) × RunSays config log core exit options firsts lasts requests said) text end
+  pub says : SaysSome (λ said. (config : IndexConfig) × IsConfigured config core × RunSays config log core exit options firsts lasts requests said) text end
 
 -- the same, and then the last line of that end, which is nothing
 pub record RanOn (options : RunOptions) (log : Log) (firsts lasts : List ℕ) (core : Core) (requests : List Request) (told : Option State) (count : ℕ)
