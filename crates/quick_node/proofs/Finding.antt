@@ -223,9 +223,10 @@ module _ (before : Outside) (store : Option State) (count : ℕ) (input : Option
 
 -- ---- the words found no memory
 
-pub unread_opening : (given : List (List ℕ)) (clock : Option ℕ) (before after : Outside) (status : ℕ) → StoreStays before after → InputStays before after → (status ≡ ended_status ended.Memory) ⊎ (status ≡ 11) → Opening given clock before after status
-unread_opening given clock before after status store input is = record {
+pub unread_opening : (readers : ℕ) (given : List (List ℕ)) (clock : Option ℕ) (before after : Outside) (status : ℕ) → StoreStays before after → InputStays before after → (status ≡ ended_status ended.Memory) ⊎ (status ≡ 11) → Opening readers given clock before after status
+unread_opening readers given clock before after status store input is = record {
   drive = λ drive. record { end = ended.Memory; status_is = is; says = inr (store, input) };
+  run = λ run. record { end = ended.Memory; status_is = is; says = inr (store, input) };
   create = λ create. record { end = ended.Memory; status_is = is; says = store };
   report = λ asked asks. record { end = ended.Memory; status_is = is; says = inr (store, input) };
 }

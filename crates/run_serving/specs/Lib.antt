@@ -21,3 +21,4 @@ pub mod Opening
 pub mod Requests
 pub mod Runs
 pub mod Saying
+pub mod Contract

@@ -14,6 +14,7 @@ ghost use Rattle.node_run.specs.Node.{Node};
 ghost use Rattle.node_run.specs.Logs.{logs_in};
 ghost use Rattle.node_run.specs.Standing.{NodeStands};
 ghost use Rattle.run_serving.specs.Causes.{faults_of, IsOneOf, other_statuses, DriveCauses, CreateCauses, ReportCauses};
+ghost use Rattle.run_serving.specs.Contract.{Serves};
 ghost use Rattle.run_serving.specs.Creating.{CreatesAt};
 ghost use Rattle.run_serving.specs.Ending.{EndsSo, ended_status};
 ghost use Rattle.run_serving.specs.Opening.{Outside, outside_of, IsFound, IsFoundFrom, DriveFinds, RunFinds, CreateFinds, ReportFinds, EndsBy};
@@ -23,12 +24,13 @@ ghost use Rattle.run_serving.specs.Saying.{RanOn, SaidAlone, end_of};
 ghost use Rattle.run_serving.specs.Serve.{Before, LogsShow, StreamsShow, Shows, Returns, EntersAs, IsFresh, Opens, BeginsAlong, Drives, WroteWords};
 
 use crate::error_line::{End, NO_MEMORY, print_end, status_of};
+use crate::reporting::Report;
 use crate::requests::{ReadEnd, read_requests};
 use crate::saying::{Finished, finish};
 use crate::writing::write_all;
 use byte_fields::{Sink, Source};
 use clock_time::{Clock, ScriptClock};
-use command_words::RunOptions as RunAsked;
+use command_words::{Command, RunOptions as RunAsked, read_words};
 use index_world::{Unopened, World};
 use node_run::Logs;
 use object_store::ObjectStore;
@@ -112,6 +114,89 @@ fn refuse<S: ObjectStore, L: SourceLog, W: Sink>(
     ensures writes { WroteWords result.0.status (W.fault_count output.old) (W.fault_count output.new) (W.content output.old) (W.content output.new) }
 {
     ended(alloc, store, Logs::Unread(logs), End::BadWords, output)
+}
+
+// Opens the index of a store, and drives a node over it.
+#[tactic(none)]
+fn drive<Rt: Threads + Sync, S: ObjectStore, L: SourceLog, R: Source, W: Sink>(
+    rt: &Rt,
+    alloc: Global,
+    store: S,
+    logs: Vec<L>,
+    input: &mut R,
+    output: &mut W,
+) -> (Served<S>, Logs<L>)
+    ensures drives { (history : List Entry) (before : Before) →
+        Shows S.told S.fault_count L.told L.fault_count R.left R.fault_count W.content W.fault_count store logs.items input.old output.old before →
+        EntersAs history before →
+        Returns S.told S.fault_count L.fault_count L.since R.left R.fault_count W.content W.fault_count result.0.store result.0.store_faults result.0.log_faults
+        logs.items (logs_in result.1) input.new output.new (λ after. Drives history before after result.0.status) }
+    ensures opening { EndsBy DriveFinds (outside_of (S.told store) (S.fault_count store) (R.left input.old) (R.fault_count input.old) (W.content output.old) (W.fault_count output.old))
+        (outside_of (S.told result.0.store) (S.fault_count result.0.store) (R.left input.new) (R.fault_count input.new) (W.content output.new) (W.fault_count output.new)) result.0.status }
+    ensures causes { DriveCauses (faults_of (S.fault_count store) (R.fault_count input.old) (W.fault_count output.old))
+        (faults_of (S.fault_count result.0.store) (R.fault_count input.new) (W.fault_count output.new)) result.0.status }
+    ensures store_faults { result.0.store_faults ≡ S.fault_count result.0.store }
+    ensures log_sum { result.0.log_faults ≡ min (sum (map L.fault_count (logs_in result.1))) last_count }
+{
+    let _ = rt;
+    let _ = input.faults();
+    ended(alloc, store, Logs::Unread(logs), End::Memory, output)
+}
+
+// Makes the index of the configuration that the input has.
+#[tactic(none)]
+fn create<S: ObjectStore, L: SourceLog, C: Clock, R: Source, W: Sink>(
+    alloc: Global,
+    store: S,
+    logs: Vec<L>,
+    clock: C,
+    input: &mut R,
+    output: &mut W,
+) -> (Served<S>, Logs<L>)
+    ensures creates { (history : List Entry) (before : Before) →
+        Shows S.told S.fault_count L.told L.fault_count R.left R.fault_count W.content W.fault_count store logs.items input.old output.old before →
+        EntersAs history before →
+        Returns S.told S.fault_count L.fault_count L.since R.left R.fault_count W.content W.fault_count result.0.store result.0.store_faults result.0.log_faults
+        logs.items (logs_in result.1) input.new output.new (λ after. CreatesAt (C.told clock) history before after result.0.status) }
+    ensures opening { EndsBy (CreateFinds (C.told clock)) (outside_of (S.told store) (S.fault_count store) (R.left input.old) (R.fault_count input.old) (W.content output.old) (W.fault_count output.old))
+        (outside_of (S.told result.0.store) (S.fault_count result.0.store) (R.left input.new) (R.fault_count input.new) (W.content output.new) (W.fault_count output.new)) result.0.status }
+    ensures causes { CreateCauses (faults_of (S.fault_count store) (R.fault_count input.old) (W.fault_count output.old))
+        (faults_of (S.fault_count result.0.store) (R.fault_count input.new) (W.fault_count output.new)) result.0.status }
+    ensures store_faults { result.0.store_faults ≡ S.fault_count result.0.store }
+    ensures log_sum { result.0.log_faults ≡ min (sum (map L.fault_count (logs_in result.1))) last_count }
+    ensures unread { logs_in result.1 ≡ logs.items }
+{
+    mem::drop(clock);
+    let _ = input.faults();
+    ended(alloc, store, Logs::Unread(logs), End::Memory, output)
+}
+
+// Writes a report on the index of a store. Nothing is read of the input.
+#[tactic(none)]
+fn report<S: ObjectStore, L: SourceLog, R: Source, W: Sink>(
+    alloc: Global,
+    asked: Report,
+    store: S,
+    logs: Vec<L>,
+    _input: &R,
+    output: &mut W,
+) -> (Served<S>, Logs<L>)
+    ensures reports { (history : List Entry) (before : Before) →
+        Shows S.told S.fault_count L.told L.fault_count R.left R.fault_count W.content W.fault_count store logs.items _input.now output.old before →
+        EntersAs history before →
+        Returns S.told S.fault_count L.fault_count L.since R.left R.fault_count W.content W.fault_count result.0.store result.0.store_faults result.0.log_faults
+        logs.items (logs_in result.1) _input.now output.new (λ after. Reports asked history before after result.0.status) }
+    ensures landed { WhereTold (S.told store) (S.told result.0.store) HasLanded }
+    ensures opening { EndsBy (ReportFinds asked) (outside_of (S.told store) (S.fault_count store) (R.left _input.now) (R.fault_count _input.now) (W.content output.old) (W.fault_count output.old))
+        (outside_of (S.told result.0.store) (S.fault_count result.0.store) (R.left _input.now) (R.fault_count _input.now) (W.content output.new) (W.fault_count output.new)) result.0.status }
+    ensures causes { ReportCauses (faults_of (S.fault_count store) (R.fault_count _input.now) (W.fault_count output.old))
+        (faults_of (S.fault_count result.0.store) (R.fault_count _input.now) (W.fault_count output.new)) result.0.status }
+    ensures store_faults { result.0.store_faults ≡ S.fault_count result.0.store }
+    ensures log_sum { result.0.log_faults ≡ min (sum (map L.fault_count (logs_in result.1))) last_count }
+    ensures unread { logs_in result.1 ≡ logs.items }
+{
+    let _ = asked;
+    ended(alloc, store, Logs::Unread(logs), End::Memory, output)
 }
 
 // What the words ask of a run.
@@ -286,3 +371,81 @@ fn run_index<
     }
 }
 
+/// Does the command that the words name. `drive` reads a schedule line by line from the input, and answers each line by a
+/// line of the output. `create` reads a configuration from the input, and makes the index of a store that has none, at the
+/// moment that the clock tells. `splits` writes a line for each split of the index, and `describe` the index as a whole.
+/// Statuses: 0 all lines were answered, an index was made, or a report was written, 1 the words name no command, 2 the input
+/// is no configuration, 3 a line is none, 4 the store failed in opening or making, 5 the input failed, 6 the output failed,
+/// 7 the store is no index, 8 its journal is empty, 9 it has an entry, 10 a limit was passed, 11 want of memory. The logs are
+/// given back, each as a later state of the one that was handed in.
+#[tactic(none)]
+pub fn serve_with_logs<
+    Rt: Threads + Wait + Sync,
+    S: ObjectStore + Send,
+    L: SourceLog + Send,
+    C: Clock + Send,
+    R: Source,
+    W: Sink,
+>(
+    rt: &Rt,
+    alloc: Global,
+    words: &[String],
+    store: S,
+    logs: Vec<L>,
+    clock: C,
+    input: &mut R,
+    output: &mut W,
+) -> (Served<S>, Logs<L>)
+    ensures { Serves S.told S.fault_count L.told L.fault_count L.since R.left R.fault_count W.content W.fault_count
+        (map string_bytes words.now) store logs.items (C.told clock) input.old output.old
+        result.0.store result.0.store_faults result.0.log_faults (logs_in result.1) input.new output.new result.0.status }
+{
+    let Ok(named) = read_words(alloc, words) else {
+        return ended(alloc, store, Logs::Unread(logs), End::Memory, output);
+    };
+    let Some(command) = named else {
+        return refuse(alloc, store, logs, output);
+    };
+    match command {
+        Command::Create => create(alloc, store, logs, clock, input, output),
+        Command::Drive => drive(rt, alloc, store, logs, input, output),
+        Command::Run(asked) => {
+            let options = options_of(&asked);
+            if logs.len() < options.indexers {
+                return refuse(alloc, store, logs, output);
+            }
+            run_index(rt, alloc, options, store, logs, clock, input, output)
+        }
+        Command::Splits => report(alloc, Report::Splits, store, logs, input, output),
+        Command::Describe => report(alloc, Report::Describe, store, logs, input, output),
+    }
+}
+
+/// Does the command that the words name, as `serve_with_logs`, and lets the logs go.
+#[tactic(none)]
+pub fn serve<
+    Rt: Threads + Wait + Sync,
+    S: ObjectStore + Send,
+    L: SourceLog + Send,
+    C: Clock + Send,
+    R: Source,
+    W: Sink,
+>(
+    rt: &Rt,
+    alloc: Global,
+    words: &[String],
+    store: S,
+    logs: Vec<L>,
+    clock: C,
+    input: &mut R,
+    output: &mut W,
+) -> Served<S>
+    // The same of some logs.
+    ensures { (lasts : List L) × Serves S.told S.fault_count L.told L.fault_count L.since R.left R.fault_count W.content W.fault_count
+        (map string_bytes words.now) store logs.items (C.told clock) input.old output.old
+        result.store result.store_faults result.log_faults lasts input.new output.new result.status }
+{
+    let (finished, logs) = serve_with_logs(rt, alloc, words, store, logs, clock, input, output);
+    mem::drop(logs);
+    finished
+}
