@@ -226,3 +226,15 @@ returns-in-Describe g c = record {
   log_sum = c.report-in-Describe.ensures.log_sum;
   unread = λ other run. c.report-in-Describe.ensures.unread;
 }
+
+pub options_of-options-requires : goal.options_of-options-requires
+options_of-options-requires g c = ?
+
+pub run_index-requires-clause-indexers : goal.run_index-requires-clause-indexers
+run_index-requires-clause-indexers g c κs within = ?
+
+pub returns-then-len-options : goal.returns-then-len-options
+returns-then-len-options g c = ?
+
+pub returns-else-len-options : goal.returns-else-len-options
+returns-else-len-options g c = ?
