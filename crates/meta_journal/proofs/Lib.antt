@@ -12,3 +12,5 @@ pub mod KeyOrder
 pub mod Listing
 pub mod Pages
 pub mod Loads
+pub mod SnapshotFields
+pub mod SnapshotLaws
