@@ -25,3 +25,6 @@ pub mod GivenUp
 pub mod Staged
 pub mod Within
 pub mod Apart
+pub mod Parted
+pub mod Bounded
+pub mod Restorable

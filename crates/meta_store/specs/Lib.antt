@@ -15,3 +15,5 @@ pub mod Words
 pub mod Contents
 pub mod Left
 pub mod Planning
+pub mod Parts
+pub mod Restoring

@@ -1,5 +1,5 @@
 -- Which parts a state can be restored from: nine conditions.
-use Rattle.std.specs.Prelude.{ℕ, ◌≡◌, ◌+◌, ◌==◌, ◌&&◌, Bool, true, false, not, List, [], ◌∷◌, ◌++◌, length, map, if◌then◌else◌, ⊤, Result, Ok, Err, nat_lt, nat_le}
+use Rattle.std.specs.Prelude.{ℕ, ◌≡◌, ◌+◌, ◌==◌, ◌&&◌, Bool, true, false, not, List, [], ◌∷◌, ◌++◌, length, map, if◌then◌else◌, ⊤, Result, Ok, Err, is_ok, nat_lt, nat_le}
 use Rattle.std.specs.List.{list_all}
 use Rattle.std.specs.Ordering.{nat_cmp}
 use Rattle.std.specs.Cmp.Lexicographic.{slice_cmp}
@@ -58,12 +58,8 @@ fits parts =
 
 -- ---- bad texts
 
-abbrev pub is_read : {A E : Type 0} → Result A E → Bool
-is_read (Ok x) = true
-is_read (Err e) = false
-
 abbrev pub reads_task : Reads → Settings → AskedTask → Bool
-reads_task reads settings task = is_read (reads.query settings.index task.text task.fields)
+reads_task reads settings task = is_ok (reads.query settings.index task.text task.fields)
 
 abbrev pub texts_read : Reads → Result Settings ConfigError → List AskedTask → Bool
 texts_read reads (Err error) tasks = false
