@@ -160,7 +160,7 @@ module _ (bytes : List ℕ) where
   row_number_exact before = where_exact bytes (λ number. is_last (λ last. nat_lt last.number number) (last_of before)) BadOrder (number_at bytes) varint IsNumber (NumberBehind (last_of before))
       (λ n h. number_is n (last_of before) h) (λ n h. number_passes n (last_of before) h) (number_exact bytes)
 
-  moment_is : IsExact bytes (moment_at bytes) varint IsMoment
+  pub moment_is : IsExact bytes (moment_at bytes) varint IsMoment
   moment_is = exact_same bytes (moment_at bytes) varint (λ n. IsNumber n × (n < 2 ^ 62)) IsMoment (λ n h. h.1) (λ n h. (omega (arith, h), h)) (moment_exact bytes)
 
   abbrev RowParts : Type 0

@@ -64,7 +64,7 @@ version_again version rest (inr two) = rw two (grind (arith, nat_tests))
 -- ---- what both formats have
 
 -- the parts of a body without its retired ranges
-body_of : StateParts → Body
+abbrev body_of : StateParts → Body
 body_of s = record { revision = s.revision; greatest = s.greatest; config = s.config; next = s.next; checkpoints = s.checkpoints; tasks = s.tasks; rows = s.rows }
 
 abbrev spelled_body : Body → List ℕ
@@ -128,7 +128,7 @@ abbrev spelled_by : (version : ℕ) → StateParts → List ℕ
 spelled_by version s = snapshot_header version ++ (body_spelled s ++ spelled_retired version s.retired)
 
 by_version : (bytes : List ℕ) (version : ℕ) (s : StateParts) → (version ≡ 1) ⊎ (version ≡ 2) → (eqb version 1 ≡ true → s.retired ≡ []) → bytes ≡ spelled_by version s → SpellsParts bytes s
-unfolding parts_spelled, parts_spelled_before
+unfolding parts_spelled parts_spelled_before
 by_version bytes version s (inl one) none text =
     let text' : bytes ≡ spelled_by 1 s = subst (λ (v : ℕ). bytes ≡ spelled_by v s) one text in
     inr (text' ∙ ap (λ (l : List ℕ). snapshot_header 1 ++ l) (append-nil (body_spelled s)), none (eq-eqb version 1 one))
@@ -184,7 +184,7 @@ parts_by version s known none can =
     rw (v, b, r, end, same) refl
 
 pub parts_again : (bytes : List ℕ) (s : StateParts) → CanSpellParts s → SpellsParts bytes s → parts_in bytes ≡ Ok s
-unfolding parts_spelled, parts_spelled_before
+unfolding parts_spelled parts_spelled_before
 parts_again bytes s can (inl two) = ap parts_in two ∙ parts_by 2 s (inr refl) (λ e. absurd (cc e)) can
 parts_again bytes s can (inr one) =
     let text : bytes ≡ spelled_by 1 s = one.0 ∙ ap (λ (l : List ℕ). snapshot_header 1 ++ l) (sym (append-nil (body_spelled s))) in

@@ -1,5 +1,5 @@
 -- Which parts a state can be restored from: nine conditions.
-use Rattle.std.specs.Prelude.{ℕ, ◌≡◌, ◌+◌, ◌==◌, ◌&&◌, Bool, true, false, not, List, [], ◌∷◌, ◌++◌, length, map, if◌then◌else◌, ⊤, Result, Ok, Err, is_ok, nat_lt, nat_le}
+use Rattle.std.specs.Prelude.{ℕ, ◌≡◌, ◌+◌, ◌==◌, ◌&&◌, Bool, true, false, not, List, [], ◌∷◌, ◌++◌, length, map, if◌then◌else◌, ⊤, Option, Some, None, Result, Ok, Err, is_ok, nat_lt, nat_le}
 use Rattle.std.specs.List.{list_all}
 use Rattle.std.specs.Ordering.{nat_cmp}
 use Rattle.std.specs.Cmp.Lexicographic.{slice_cmp}
@@ -10,6 +10,7 @@ use Rattle.meta_journal.specs.declared.state_parts.StateParts.{StateParts}
 use Rattle.source_checkpoint.specs.Checkpoints.{checkpoint_at}
 use Rattle.source_checkpoint.specs.Deltas.{Partition, range_of}
 use Rattle.source_checkpoint.specs.declared.delta.Part.{Part}
+use Rattle.source_checkpoint.specs.declared.ledger.Checkpoint.{Checkpoint}
 use Rattle.source_checkpoint.specs.declared.span.Span.{Span}
 use Rattle.split_states.specs.declared.rows.Row.{Row}
 use Rattle.split_states.specs.Due.{is_staged}
@@ -76,13 +77,21 @@ abbrev pub all_ranges : StateParts → List Part
 all_ranges parts = map range_of (published_spans parts.rows) ++ all_retired parts.retired
 
 -- each record of the partition below its checkpoint lies in one of the ranges, once, and no other record in any
-abbrev pub IsEvenAt : StateParts → Partition → Type 0
-IsEvenAt parts p = (offset : ℕ) → times_at p offset (all_ranges parts) ≡ (if nat_lt offset (checkpoint_at parts.checkpoints p) then 1 else 0)
+abbrev pub IsEvenIn : List Checkpoint → List Part → Partition → Type 0
+IsEvenIn checkpoints ranges p = (offset : ℕ) → times_at p offset ranges ≡ (if nat_lt offset (checkpoint_at checkpoints p) then 1 else 0)
 
 -- the least partition that is not even
-pub record IsFirstUneven (parts : StateParts) (p : Partition) : Type 0 where
-  pub uneven : IsEvenAt parts p → ⊥
-  pub before : (q : Partition) → slice_cmp nat_cmp q p ≡ Less → IsEvenAt parts q
+pub record IsFirstUneven (checkpoints : List Checkpoint) (ranges : List Part) (p : Partition) : Type 0 where
+  pub uneven : IsEvenIn checkpoints ranges p → ⊥
+  pub before : (q : Partition) → slice_cmp nat_cmp q p ≡ Less → IsEvenIn checkpoints ranges q
+
+abbrev pub IsEvenAt : StateParts → Partition → Type 0
+IsEvenAt parts p = IsEvenIn parts.checkpoints (all_ranges parts) p
+
+-- the first one, or none
+abbrev pub FindsUneven : List Checkpoint → List Part → Option Partition → Type 0
+FindsUneven checkpoints ranges None = (p : Partition) → IsEvenIn checkpoints ranges p
+FindsUneven checkpoints ranges (Some p) = IsFirstUneven checkpoints ranges p
 
 -- ---- all
 
@@ -96,5 +105,5 @@ abbrev pub Restores : Reads → StateParts → Result Kept RestoreError → Type
 Restores reads parts (Ok kept) = CanRestore reads parts × (kept.state ≡ state_from reads parts)
 Restores reads parts (Err OutOfRange) = fits parts ≡ false
 Restores reads parts (Err BadText) = (fits parts ≡ true) × (has_texts reads parts ≡ false)
-Restores reads parts (Err (Uneven p)) = (fits parts ≡ true) × (has_texts reads parts ≡ true) × IsFirstUneven parts p
+Restores reads parts (Err (Uneven p)) = (fits parts ≡ true) × (has_texts reads parts ≡ true) × IsFirstUneven parts.checkpoints (all_ranges parts) p
 Restores reads parts (Err (Memory e)) = ⊤
