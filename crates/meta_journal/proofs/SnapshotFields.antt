@@ -1,5 +1,5 @@
 -- What a state's parts are made of is read as it is spelled.
-use Rattle.std.proofs.Common.{◌≡◌, ℕ, ◌+◌, ◌≤◌, ◌<◌, ◌^◌, ◌&&◌, Bool, true, false, cond, eqb, leb, List, [], ◌∷◌, ◌++◌, length, get_or, drop, Option, Some, None, Result, Ok, Err, refl, sym, ap, subst, ◌∙◌, arith}
+use Rattle.std.proofs.Common.{◌≡◌, ℕ, ◌+◌, ◌<◌, ◌^◌, ◌&&◌, Bool, true, false, cond, eqb, leb, List, [], ◌∷◌, ◌++◌, length, get_or, Option, Some, None, Ok, Err, refl, sym, ap, subst, ◌∙◌, arith}
 use Rattle.std.specs.Prelude.{nat_lt}
 use Rattle.std.proofs.lemmas.Bool.Decides.{nat_tests}
 use Rattle.std.proofs.lemmas.Bool.{lt-ltb, ltb-true, leb-false, eqb-true, and_parts}
@@ -7,7 +7,7 @@ use Rattle.std.specs.Ordering.{nat_cmp, is_lt}
 use Rattle.std.specs.Cmp.Lexicographic.{slice_cmp}
 use Rattle.byte_fields.specs.declared.field_error.FieldError.TheVariants.{Short, BadOrder}
 use Rattle.byte_fields.specs.Spelling.{varint, byte_string, SpelledAt}
-use Rattle.byte_fields.proofs.Taken.{IsBytes, SpelledAt-byte, head_at}
+use Rattle.byte_fields.proofs.Taken.{SpelledAt-byte, head_at}
 use Rattle.source_checkpoint.specs.Names.{IsPartition}
 use Rattle.source_checkpoint.specs.declared.ledger.Checkpoint.{Checkpoint}
 use Rattle.source_checkpoint.specs.declared.span.Span.{Span}
@@ -15,7 +15,6 @@ use Rattle.split_states.specs.declared.facts.RowFacts.{RowFacts}
 use Rattle.split_states.specs.declared.rows.Row.{Row}
 use Rattle.split_states.specs.declared.rows.RowState.{RowState}
 use Rattle.split_states.specs.declared.rows.RowState.TheVariants.{Staged, Published, Marked}
-use Rattle.meta_journal.specs.declared.entry_error.EntryError.{EntryError}
 use Rattle.meta_journal.specs.declared.entry_error.EntryError.TheVariants.{BadKind, Field}
 use Rattle.meta_journal.specs.declared.state_parts.Offsets.{Offsets}
 use Rattle.meta_journal.specs.declared.state_parts.RetiredRanges.{RetiredRanges}
@@ -23,7 +22,7 @@ use Rattle.meta_journal.specs.Spelling.{counted, facts_spelled, range_spelled, I
 use Rattle.meta_journal.specs.Snapshots.{checkpoint_spelled, task_spelled, span_spelled, state_number, state_spelled, row_spelled, offsets_spelled, retired_spelled, IsMoment, CanSpellCheckpoint, IsCheckpointBelow, CanSpellTask, CanSpellSpan, CanSpellRow, IsRowBelow, CanSpellOffsets, IsRangeBelow, CanSpellRetired, IsRetiredBelow}
 use Rattle.meta_journal.specs.Reading.{◌>>=◌, both, made, where_is, members, is_last, last_of, number_at, utf8_at, counted_at, partition_at, facts_at, range_at, moment_at}
 use Rattle.meta_journal.specs.SnapshotReading.{is_name_above, row_state_of, listed_name_at, listed_at, task_at, span_at, row_state_at, row_number_at, kept_row_at, offsets_at, ranges_at, retired_name_at, retired_at}
-use Rattle.meta_journal.proofs.Exact.{bind_ok, ok_is, guard_ok, Takes, Again, IsExact, number_exact, utf8_exact, both_exact, made_exact, where_exact, counted_exact, Chain}
+use Rattle.meta_journal.proofs.Exact.{bind_ok, ok_is, guard_ok, IsExact, number_exact, utf8_exact, both_exact, made_exact, where_exact, counted_exact, Chain}
 use Rattle.meta_journal.proofs.FieldLaws.{exact_same, IsAbove, rises_chain, chain_rises, plain_exact, rising_exact, last_is, last_passes, is_less, partition_exact, facts_exact, range_exact}
 use Rattle.meta_journal.proofs.EntryLaws.{moment_exact}
 

@@ -28,3 +28,10 @@ pub mod Apart
 pub mod Parted
 pub mod Bounded
 pub mod Restorable
+pub mod Evenness
+pub mod Walks
+pub mod TaskFields
+pub mod Counts
+pub mod Remade
+pub mod Grouped
+pub mod Spellable

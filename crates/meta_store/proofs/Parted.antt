@@ -26,7 +26,7 @@ use Rattle.meta_store.specs.declared.config.TaskAsk.{TaskAsk}
 
 -- ---- ranges, those of each partition together
 
-flat_behind : (groups : List RetiredRanges) (r : Part) → all_retired (put_behind groups r) ≡ all_retired groups ++ r ∷ []
+pub flat_behind : (groups : List RetiredRanges) (r : Part) → all_retired (put_behind groups r) ≡ all_retired groups ++ r ∷ []
 flat_behind [] r = refl
 flat_behind (g ∷ []) r =
     elim (cases_Bool (bytes_eq g.partition r.partition)) [

@@ -35,7 +35,7 @@ use Rattle.meta_store.specs.Ledgers.{ledger}
 use Rattle.meta_store.specs.Parts.{asked, parts_of, all_retired, by_partition, state_from}
 use Rattle.meta_store.specs.Planning.{is_within}
 use Rattle.meta_store.specs.Readings.{Reads, config_of}
-use Rattle.meta_store.specs.Restoring.{row_fits, span_fits, is_fresh, spans_fit, numbered_from, fits, reads_task, texts_read, has_texts, all_ranges, IsEvenAt, CanRestore}
+use Rattle.meta_store.specs.Restoring.{row_fits, span_fits, is_fresh, spans_fit, numbered_from, numbers_fit, tasks_fit, fits, reads_task, texts_read, has_texts, all_ranges, IsEvenAt, CanRestore}
 use Rattle.meta_store.specs.Rows.{rows}
 use Rattle.meta_store.specs.State.{State, state_of, span_count_of, checkpoints_of, retired_of, Legal}
 use Rattle.meta_store.specs.Tasks.{tasks_of, asks_of}
@@ -93,7 +93,7 @@ asked_numbers reads settings first (task ∷ tasks) [] h n = absurd h
 asked_numbers reads settings first (task ∷ tasks) (ask ∷ asks) h n =
     and_from (task.opstamp == first) _ (eq-eqb task.opstamp first n.0) (asked_numbers reads settings (first + 1) tasks asks h.2 n.1)
 
-asked_texts : (reads : Reads) (settings : Settings) (tasks : List DeleteTask) (asks : List TaskAsk) → AreRead reads settings tasks asks → list_all (reads_task reads settings) (asked tasks asks) ≡ true
+asked_texts : (reads : Reads) (settings : Settings) (tasks : List DeleteTask) (asks : List TaskAsk) → AreRead reads settings tasks asks → list_all (reads_task reads settings.index) (asked tasks asks) ≡ true
 asked_texts reads settings [] [] h = refl
 asked_texts reads settings [] (ask ∷ asks) h = absurd h
 asked_texts reads settings (task ∷ tasks) [] h = absurd h
@@ -133,13 +133,13 @@ module _ (reads : Reads) (h : History) (l : Legal reads h) (config : Config) (is
       let good : AllOf (λ row. IsGood (last_opstamp h) row × Traced h row) (rows h) = AllOf-both (IsGood (last_opstamp h)) (Traced h) (rows h) (shaped reads h l).good (sound reads h l).held.each in
       let fit : list_all (spans_fit (length parts.tasks)) (rows h) ≡ true =
           subst (λ (n : ℕ). list_all (spans_fit n) (rows h) ≡ true) (sym task_count) (all_pass (λ row. IsGood (last_opstamp h) row × Traced h row) (spans_fit (last_opstamp h)) (rows h) (spans_pass h) good) in
-      and_from (is_within 1 10000000 (revision_of h)) _ (within_from 1 10000000 (revision_of h) some most)
-      (and_from (is_within 1 (revision_of h) (last_number h + 1)) _ (within_from 1 (revision_of h) (last_number h + 1) (omega arith) (omega (arith, next)))
-      (and_from (nat_le (length (rows h)) 100000) _ (le-leb (length (rows h)) 100000 b.row_count)
+      and_from (numbers_fit parts) _
+      (and_from (is_within 1 10000000 (revision_of h)) _ (within_from 1 10000000 (revision_of h) some most)
+      (and_from (is_within 1 (revision_of h) (last_number h + 1)) _ (within_from 1 (revision_of h) (last_number h + 1) (omega arith) (omega (arith, next))) (le-leb (length (rows h)) 100000 b.row_count)))
       (and_from (list_all (row_fits (revision_of h) (moment_of h) (last_number h + 1)) (rows h)) _ (all_pass _ (row_fits (revision_of h) (moment_of h) (last_number h + 1)) (rows h) (row_passes (revision_of h) (moment_of h) (last_number h)) each)
-      (and_from (nat_le (length parts.tasks) 10000 && numbered_from 1 parts.tasks) _
+      (and_from (tasks_fit parts.tasks) _
           (and_from (nat_le (length parts.tasks) 10000) _ (le-leb (length parts.tasks) 10000 (omega (arith, count, few))) (asked_numbers reads config.settings 1 (tasks_of reads h) (asks_of h) read.1 (tallied reads h l).numbered))
-      (and_from (list_all (spans_fit (length parts.tasks)) (rows h)) _ fit (le-leb (length (published_spans (rows h))) 1000000 spans))))))
+      (and_from (list_all (spans_fit (length parts.tasks)) (rows h)) _ fit (le-leb (length (published_spans (rows h))) 1000000 spans))))
 
   pub texts : has_texts reads parts ≡ true
   texts =

@@ -2,6 +2,7 @@
 use Rattle.std.specs.Prelude.{ℕ, ◌+◌, ◌-◌, List, [], ◌∷◌, ◌++◌, length, map, fold, flat_map, if◌then◌else◌, Option, Some, None, Result, Ok, Err, bytes_eq}
 use Rattle.delete_tasks.specs.Ledger.{last_of}
 use Rattle.delete_tasks.specs.Removes.{DeleteTask}
+use Rattle.index_config.specs.declared.config.IndexConfig.{IndexConfig}
 use Rattle.index_config.specs.declared.config_error.ConfigError.{ConfigError}
 use Rattle.meta_journal.specs.declared.state_parts.AskedTask.{AskedTask}
 use Rattle.meta_journal.specs.declared.state_parts.Offsets.{Offsets}
@@ -76,9 +77,13 @@ ranges_in group = map (range_in group.partition) group.ranges
 abbrev pub all_retired : List RetiredRanges → List Part
 all_retired groups = flat_map ranges_in groups
 
--- a task's query is what its text reads under the configuration; without one no text reads
+-- a task's query is what its text reads under the configuration
+abbrev pub task_under : Reads → IndexConfig → AskedTask → DeleteTask
+task_under reads index task = task_of task.opstamp (reads.query index task.text task.fields) task.times
+
+-- without a configuration no text reads
 abbrev pub task_read : Reads → Result Settings ConfigError → AskedTask → DeleteTask
-task_read reads (Ok settings) task = task_of task.opstamp (reads.query settings.index task.text task.fields) task.times
+task_read reads (Ok settings) task = task_under reads settings.index task
 task_read reads (Err error) task = task_of task.opstamp (Err (Syntax 0)) task.times
 
 abbrev pub ask_of : AskedTask → TaskAsk

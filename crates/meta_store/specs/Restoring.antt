@@ -4,6 +4,7 @@ use Rattle.std.specs.List.{list_all}
 use Rattle.std.specs.Ordering.{nat_cmp}
 use Rattle.std.specs.Cmp.Lexicographic.{slice_cmp}
 use Rattle.std.specs.declared.cmp.Ordering.TheVariants.{Less}
+use Rattle.index_config.specs.declared.config.IndexConfig.{IndexConfig}
 use Rattle.index_config.specs.declared.config_error.ConfigError.{ConfigError}
 use Rattle.meta_journal.specs.declared.state_parts.AskedTask.{AskedTask}
 use Rattle.meta_journal.specs.declared.state_parts.StateParts.{StateParts}
@@ -46,25 +47,29 @@ abbrev pub numbered_from : (first : ℕ) → List AskedTask → Bool
 numbered_from first [] = true
 numbered_from first (task ∷ tasks) = task.opstamp == first && numbered_from (first + 1) tasks
 
--- the opstamps are 1, 2 and so on up to the number of tasks, which is thus the last one
+abbrev pub numbers_fit : StateParts → Bool
+numbers_fit parts = is_within 1 10000000 parts.revision && (is_within 1 parts.revision parts.next && nat_le (length parts.rows) 100000)
+
+-- the opstamps are 1, 2 and so on, so the last one is the number of tasks
+abbrev pub tasks_fit : List AskedTask → Bool
+tasks_fit tasks = nat_le (length tasks) 10000 && numbered_from 1 tasks
+
 abbrev pub fits : StateParts → Bool
 fits parts =
-    is_within 1 10000000 parts.revision
-    && (is_within 1 parts.revision parts.next
-    && (nat_le (length parts.rows) 100000
+    numbers_fit parts
     && (list_all (row_fits parts.revision parts.greatest parts.next) parts.rows
-    && (nat_le (length parts.tasks) 10000 && numbered_from 1 parts.tasks
+    && (tasks_fit parts.tasks
     && (list_all (spans_fit (length parts.tasks)) parts.rows
-    && nat_le (length (published_spans parts.rows)) 1000000)))))
+    && nat_le (length (published_spans parts.rows)) 1000000)))
 
 -- ---- bad texts
 
-abbrev pub reads_task : Reads → Settings → AskedTask → Bool
-reads_task reads settings task = is_ok (reads.query settings.index task.text task.fields)
+abbrev pub reads_task : Reads → IndexConfig → AskedTask → Bool
+reads_task reads index task = is_ok (reads.query index task.text task.fields)
 
 abbrev pub texts_read : Reads → Result Settings ConfigError → List AskedTask → Bool
 texts_read reads (Err error) tasks = false
-texts_read reads (Ok settings) tasks = list_all (reads_task reads settings) tasks
+texts_read reads (Ok settings) tasks = list_all (reads_task reads settings.index) tasks
 
 -- the configuration reads, and each task under it
 abbrev pub has_texts : Reads → StateParts → Bool
