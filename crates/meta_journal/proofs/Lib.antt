@@ -14,3 +14,4 @@ pub mod Pages
 pub mod Loads
 pub mod SnapshotFields
 pub mod SnapshotLaws
+pub mod Worked
