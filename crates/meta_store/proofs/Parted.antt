@@ -1,5 +1,5 @@
 -- A state is made anew from its parts.
-use Rattle.std.proofs.Common.{◌≡◌, ℕ, ◌+◌, ◌-◌, true, false, cond, List, [], ◌∷◌, ◌++◌, length, map, fold, flat_map, Option, Some, None, Result, Ok, Err, IsOk, bytes_eq, refl, sym, ap, subst, ◌∙◌, append_assoc, append-nil, arith, inl, inr}
+use Rattle.std.proofs.Common.{◌≡◌, ℕ, zero, suc, ◌+◌, ◌-◌, ◌<◌, get_or, set, true, false, cond, List, [], ◌∷◌, ◌++◌, length, map, fold, flat_map, Option, Some, None, Result, Ok, Err, IsOk, bytes_eq, refl, sym, ap, subst, ◌∙◌, append_assoc, append-nil, arith, inl, inr}
 use Rattle.std.proofs.lemmas.Bool.{cases_Bool, false≢true}
 use Rattle.std.proofs.lemmas.List.{map-append}
 use Rattle.delete_tasks.specs.Ledger.{last_of}
@@ -8,6 +8,7 @@ use Rattle.doc_value.specs.declared.facts.TimeRange.{TimeRange}
 use Rattle.index_config.specs.declared.config_error.ConfigError.{ConfigError}
 use Rattle.meta_journal.specs.declared.entry.Act.{Act}
 use Rattle.meta_journal.specs.declared.entry.Act.TheVariants.{Fence, Create, Stage, Publish, Replace, Raise, MarkStaged, Remove, Retire, Task as AddTask}
+use Rattle.meta_journal.specs.declared.state_parts.Offsets.{Offsets}
 use Rattle.meta_journal.specs.declared.state_parts.RetiredRanges.{RetiredRanges}
 use Rattle.source_checkpoint.proofs.Ranges.{same_partition}
 use Rattle.source_checkpoint.specs.declared.delta.Part.{Part}
@@ -16,7 +17,7 @@ use Rattle.meta_store.proofs.RowLists.{AllOf}
 use Rattle.meta_store.specs.History.{History}
 use Rattle.meta_store.specs.History.History.{Start, ◌▸◌}
 use Rattle.meta_store.specs.Laws.{published_spans}
-use Rattle.meta_store.specs.Parts.{asked, offsets_of, joined_by, put_behind, by_partition, parts_of, range_in, ranges_in, all_retired, task_read, ask_of, state_from}
+use Rattle.meta_store.specs.Parts.{asked, offsets_of, alone, joined_by, put_behind, by_partition, parts_of, range_in, ranges_in, all_retired, task_read, ask_of, state_from}
 use Rattle.meta_store.specs.Readings.{Reads, reading_of, configured, config_of, config_after}
 use Rattle.meta_store.specs.State.{State, state_of, Begins, Follows, MayCome, Legal}
 use Rattle.meta_store.specs.Tasks.{query_in, task_of, tasks_of, tasks_after, asks_of, asks_after}
@@ -150,3 +151,36 @@ state_same reads s config is read last spans =
       rows = s.rows;
       retired = retired' i;
     }
+
+-- ---- a range that comes behind others, by their number
+
+pub put_none : (groups : List RetiredRanges) (r : Part) → length groups ≡ 0 → put_behind groups r ≡ groups ++ alone r ∷ []
+put_none [] r none = refl
+put_none (g ∷ groups) r none = absurd (omega (arith, none))
+
+pub put_other : (groups : List RetiredRanges) (i : ℕ) (g : RetiredRanges) (r : Part) → i + 1 ≡ length groups → g ≡ get_or groups i g → bytes_eq g.partition r.partition ≡ false → put_behind groups r ≡ groups ++ alone r ∷ []
+put_other [] i g r last is other = absurd (omega (arith, last))
+put_other (x ∷ []) zero g r last is other = rw (subst (λ (y : RetiredRanges). bytes_eq y.partition r.partition ≡ false) is other) refl
+put_other (x ∷ []) (suc i) g r last is other = absurd (omega (arith, last))
+put_other (x ∷ y ∷ groups) zero g r last is other = absurd (omega (arith, last))
+put_other (x ∷ y ∷ groups) (suc i) g r last is other = ap (λ (l : List RetiredRanges). x ∷ l) (put_other (y ∷ groups) i g r (omega (arith, last)) is other)
+
+pub put_same : (groups : List RetiredRanges) (i : ℕ) (g : RetiredRanges) (r : Part) → i + 1 ≡ length groups → g ≡ get_or groups i g → bytes_eq g.partition r.partition ≡ true → put_behind groups r ≡ set groups i (joined_by g r)
+put_same [] i g r last is same = absurd (omega (arith, last))
+put_same (x ∷ []) zero g r last is same = subst (λ (y : RetiredRanges). put_behind (y ∷ []) r ≡ joined_by g r ∷ []) is (rw same refl)
+put_same (x ∷ []) (suc i) g r last is same = absurd (omega (arith, last))
+put_same (x ∷ y ∷ groups) zero g r last is same = absurd (omega (arith, last))
+put_same (x ∷ y ∷ groups) (suc i) g r last is same = ap (λ (l : List RetiredRanges). x ∷ l) (put_same (y ∷ groups) i g r (omega (arith, last)) is same)
+
+same_item : {X : Type 0} (xs : List X) (i : ℕ) (g h : X) → i < length xs → g ≡ get_or xs i g → h ≡ get_or xs i h → g ≡ h
+same_item [] i g h lt a b = absurd (omega arith)
+same_item (x ∷ xs) zero g h lt a b = a ∙ sym b
+same_item (x ∷ xs) (suc i) g h lt a b = same_item xs i g h (omega arith) a b
+
+-- the last group, read and written
+pub put_last : (groups : List RetiredRanges) (i : ℕ) (g h : RetiredRanges) (r : Part) (new : List Offsets) → i + 1 ≡ length groups → g ≡ get_or groups i g → h ≡ get_or groups i h → bytes_eq g.partition r.partition ≡ true
+    → new ≡ h.ranges ++ offsets_of r ∷ [] → set groups i (record { partition = h.partition; ranges = new }) ≡ put_behind groups r
+put_last groups i g h r new last a b same more =
+    let one : h ≡ g = same_item groups i h g (omega (arith, last)) b a in
+    let joined : ◌≡◌ {A = RetiredRanges} (record { partition = h.partition; ranges = new }) (joined_by h r) = λ j. record { partition = h.partition; ranges = more j } in
+    ap (λ (x : RetiredRanges). set groups i x) (joined ∙ ap (λ (x : RetiredRanges). joined_by x r) one) ∙ sym (put_same groups i g r last a same)

@@ -8,7 +8,7 @@ use Rattle.std.specs.FinMap.Entries.{by_order}
 use Rattle.std.specs.declared.cmp.Ordering.{Ordering}
 use Rattle.std.specs.declared.cmp.Ordering.TheVariants.{Less, Equal, Greater}
 use Rattle.std.proofs.lemmas.Bool.{and_parts, leb-true, ltb-true, le-leb, false≢true}
-use Rattle.std.proofs.lemmas.List.{take_more, take_all, map-append, length-append}
+use Rattle.std.proofs.lemmas.List.{take_more, map-append, length-map}
 use Rattle.std.proofs.lemmas.List.Elements.{All-from_recursion}
 use Rattle.std.proofs.lemmas.Grind.{flat_map-append}
 use Rattle.delete_tasks.specs.Ledger.{last_of}
@@ -34,11 +34,17 @@ use Rattle.split_states.specs.declared.rows.Row.{Row}
 use Rattle.meta_store.proofs.Joined.{IsForward}
 use Rattle.meta_store.proofs.RowLists.{AllOf, AllOf-append, AllOf-weaker}
 use Rattle.meta_store.specs.Laws.{shown, published_spans}
-use Rattle.meta_store.specs.Parts.{range_in, ranges_in, all_retired, task_under, task_read}
+use Rattle.meta_store.specs.Parts.{range_in, ranges_in, all_retired, task_under, task_read, ask_of, state_from}
 use Rattle.meta_store.specs.Planning.{is_within}
-use Rattle.meta_store.specs.Readings.{Reads}
-use Rattle.meta_store.specs.Restoring.{row_fits, span_fits, spans_fit, numbered_from, numbers_fit, tasks_fit, fits, reads_task}
-use Rattle.meta_store.specs.Room.{MergedUpTo}
+use Rattle.meta_store.specs.Readings.{Reads, configured}
+use Rattle.meta_store.specs.Restoring.{row_fits, span_fits, spans_fit, numbered_from, numbers_fit, tasks_fit, fits, reads_task, has_texts, CanRestore, Restores}
+use Rattle.meta_store.specs.Room.{Kept, MergedUpTo}
+use Rattle.meta_store.specs.Shaped.{IsShaped, shaped, RestoresShape}
+use Rattle.meta_store.specs.State.{State}
+use Rattle.meta_store.specs.declared.config.Config.{Config}
+use Rattle.meta_store.specs.declared.config.TaskAsk.{TaskAsk}
+use Rattle.meta_store.specs.declared.restoring.RestoreError.{RestoreError}
+use Rattle.meta_store.specs.declared.restoring.RestoreError.TheVariants.{Memory, Uneven, BadText, OutOfRange}
 use Rattle.meta_store.specs.declared.config.Settings.{Settings}
 
 -- ---- checkpoints
@@ -225,3 +231,44 @@ groups_forward (g ∷ groups) h = AllOf-append IsForward (ranges_in g) (all_reti
 pub all_forward : (parts : StateParts) → CanSpellParts parts → AreInRange parts → AllOf IsForward (map range_of (published_spans parts.rows) ++ all_retired parts.retired)
 all_forward parts can a =
     AllOf-append IsForward (map range_of (published_spans parts.rows)) (all_retired parts.retired) (ranges_forward (published_spans parts.rows) (rows_forward parts.rows a.spans)) (groups_forward parts.retired can.retired.1)
+
+-- ---- the state
+
+pub shape_of : (reads : Reads) (parts : StateParts) (count : ℕ) → AreInRange parts → count ≡ length (published_spans parts.rows) → IsShaped parts.revision parts.next count parts.rows (map (task_read reads (reads.config parts.config)) parts.tasks)
+shape_of reads parts count a same = record {
+  few = a.revision;
+  some = a.next;
+  given = a.given;
+  last = let last = last_is reads (reads.config parts.config) parts.tasks a.numbered in let long = length-map parts.tasks (task_read reads (reads.config parts.config)) in omega (arith, last, long);
+  few_tasks = let long = length-map parts.tasks (task_read reads (reads.config parts.config)) in let few = a.tasks in omega (arith, long, few);
+  few_spans = let few = a.count in omega (arith, same, few);
+  merged = merged_in parts a;
+  above = above_in parts a;
+}
+
+-- a shape's state with the texts that were read is the state of the parts
+pub state_is : (reads : Reads) (parts : StateParts) (count : ℕ) (config : Config) (tasks : List DeleteTask) (asks : List TaskAsk) → count ≡ length (published_spans parts.rows) → configured parts.config (reads.config parts.config) ≡ Some config
+    → tasks ≡ map (task_read reads (reads.config parts.config)) parts.tasks → asks ≡ map ask_of parts.tasks
+    → shaped parts.revision parts.greatest parts.next count parts.checkpoints parts.rows config tasks asks (all_retired parts.retired) ≡ state_from reads parts
+state_is reads parts count config tasks asks same said told asked = λ i. record {
+  revision = parts.revision;
+  moment = parts.greatest;
+  config = sym said i;
+  last_number = parts.next - 1;
+  last_opstamp = last_of (told i);
+  tasks = told i;
+  asks = asked i;
+  span_count = same i;
+  checkpoints = parts.checkpoints;
+  rows = parts.rows;
+  retired = all_retired parts.retired;
+}
+
+-- what the shape's restore says, said of the parts
+pub restores_parts : (reads : Reads) (parts : StateParts) (state : State) (r : Result Kept RestoreError) → fits parts ≡ true → has_texts reads parts ≡ true → state ≡ state_from reads parts
+    → RestoresShape parts.checkpoints (map range_of (published_spans parts.rows) ++ all_retired parts.retired) state r → Restores reads parts r
+restores_parts reads parts state (Ok kept) range texts same h = (record { in_range = range; texts = texts; even = h.0 }, h.1 ∙ same)
+restores_parts reads parts state (Err (Uneven p)) range texts same h = (range, texts, h)
+restores_parts reads parts state (Err (Memory e)) range texts same h = tt
+restores_parts reads parts state (Err BadText) range texts same h = absurd h
+restores_parts reads parts state (Err OutOfRange) range texts same h = absurd h

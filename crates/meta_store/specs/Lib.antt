@@ -19,3 +19,4 @@ pub mod Texts
 pub mod Parts
 pub mod Restoring
 pub mod Uneven
+pub mod Shaped

@@ -1,25 +1,24 @@
 //! A state that is made anew from its parts.
 
-ghost use Rattle.std.specs.Prelude.{ℕ, ◌≡◌, ◌+◌, ◌-◌, ◌<◌, ◌≤◌, ◌^◌, ◌++◌, List, [], length, map, true, false, is_ok, IfOk, OnOk, SomeIff, MatchOption, Option, Some};
-ghost use Rattle.std.specs.List.{list_all};
-ghost use Rattle.delete_tasks.specs.Ledger.{last_of};
+ghost use Rattle.std.specs.Prelude.{◌≡◌, ◌<◌, ◌≤◌, ◌++◌, ◌∷◌, [], length, map, true, false, is_ok, IfOk, OnOk, SomeIff, MatchOption, Some};
+ghost use Rattle.std.specs.List.{list_all, AllByRecursion};
 ghost use Rattle.meta_journal.specs.Snapshots.{CanSpellParts, IsCheckpointBelow, IsRowBelow};
 ghost use Rattle.meta_journal.specs.Spelling.{Rises};
 ghost use Rattle.query_ast.specs.Sought.{view};
-ghost use Rattle.split_states.specs.Rows.{IsAbove};
+ghost use Rattle.source_checkpoint.specs.Deltas.{range_of};
 ghost use Rattle.meta_store.specs.Laws.{published_spans, shown};
 ghost use Rattle.meta_store.specs.Parts.{all_retired, ranges_in, task_under, task_read, ask_of, state_from};
 ghost use Rattle.meta_store.specs.Readings.{configured};
 ghost use Rattle.meta_store.specs.Restoring as spec;
 ghost use Rattle.meta_store.specs.Restoring.{Restores};
-ghost use Rattle.meta_store.specs.Room.{MergedUpTo};
+ghost use Rattle.meta_store.specs.Shaped.{IsShaped, shaped, RestoresShape};
 ghost use Rattle.meta_store.specs.Texts.{reads};
 
 use crate::config::{Config, TaskAsk};
 use crate::meta::Meta;
 use crate::texts::{query_of_task, settings_of};
 use crate::uneven::find_uneven;
-use byte_fields::Bytes;
+use byte_fields::{Bytes, List};
 use delete_tasks::{Task, Tasks};
 use index_config::IndexConfig;
 use meta_journal::{AskedTask, RetiredRanges, StateParts};
@@ -370,6 +369,75 @@ fn kept_retired(alloc: Global, groups: &[RetiredRanges]) -> Result<Vec<Part>, Al
 
 // ---- the state
 
+/// What of a state is no text.
+#[derive(Drop)]
+struct Shape {
+    revision: u64,
+    greatest: u64,
+    next: u64,
+    span_count: usize,
+    checkpoints: List<Checkpoint>,
+    rows: List<Row>,
+    retired: List<RetiredRanges>,
+}
+
+/// The state of a shape whose partitions are covered once.
+fn restore_even(
+    alloc: Global,
+    shape: Shape,
+    retired: Vec<Part>,
+    texts: ReadTexts,
+) -> Result<Meta, AllocError>
+    requires names { Rises IsCheckpointBelow shape.checkpoints }
+    requires rows { Rises IsRowBelow shape.rows }
+    requires sound { IsShaped shape.revision shape.next shape.span_count shape.rows texts.read.tasks.list }
+    ensures { IfOk result (λ meta. meta.state ≡ shaped shape.revision shape.greatest shape.next shape.span_count shape.checkpoints shape.rows texts.config texts.read.tasks.list texts.read.asks.items retired.items) }
+{
+    let checkpoints = kept_checkpoints(alloc, shape.checkpoints.as_slice())?;
+    let rows = kept_rows(alloc, shape.rows.into_vec())?;
+    let ReadTexts { config, read } = texts;
+    let ReadTasks { tasks, asks } = read;
+    Ok(Meta {
+        alloc,
+        revision: shape.revision,
+        moment: shape.greatest,
+        config: Some(config),
+        last_number: shape.next - 1,
+        tasks,
+        asks,
+        span_count: shape.span_count,
+        checkpoints,
+        rows,
+        retired,
+        spare: Vec::new(alloc),
+    })
+}
+
+/// The state of a shape, or the first partition that is not covered once.
+fn restore_read(alloc: Global, shape: Shape, texts: ReadTexts) -> Result<Meta, RestoreError>
+    requires names { Rises IsCheckpointBelow shape.checkpoints }
+    requires rows { Rises IsRowBelow shape.rows }
+    requires forward { AllByRecursion (λ range. range.from < range.to) (map range_of (published_spans shape.rows) ++ all_retired shape.retired) }
+    requires sound { IsShaped shape.revision shape.next shape.span_count shape.rows texts.read.tasks.list }
+    ensures { RestoresShape shape.checkpoints (map range_of (published_spans shape.rows) ++ all_retired shape.retired)
+        (shaped shape.revision shape.greatest shape.next shape.span_count shape.checkpoints shape.rows texts.config texts.read.tasks.list texts.read.asks.items (all_retired shape.retired)) result }
+{
+    let retired = kept_retired(alloc, shape.retired.as_slice())?;
+    let uneven = find_uneven(
+        alloc,
+        shape.checkpoints.as_slice(),
+        shape.rows.as_slice(),
+        retired.as_slice(),
+    )?;
+    match uneven {
+        Some(partition) => Err(RestoreError::Uneven { partition }),
+        None => match restore_even(alloc, shape, retired, texts) {
+            Ok(meta) => Ok(meta),
+            Err(refused) => Err(RestoreError::Memory(refused)),
+        },
+    }
+}
+
 /// The state of parts whose numbers are in their ranges.
 fn restore_fitting(
     alloc: Global,
@@ -391,37 +459,19 @@ fn restore_fitting(
         rows,
         retired,
     } = parts;
-    let Some(texts) = read_texts(alloc, config, tasks.into_vec())? else {
-        return Err(RestoreError::BadText);
-    };
-    let retired = kept_retired(alloc, retired.as_slice())?;
-    let uneven = find_uneven(
-        alloc,
-        checkpoints.as_slice(),
-        rows.as_slice(),
-        retired.as_slice(),
-    )?;
-    if let Some(partition) = uneven {
-        return Err(RestoreError::Uneven { partition });
-    }
-    let checkpoints = kept_checkpoints(alloc, checkpoints.as_slice())?;
-    let rows = kept_rows(alloc, rows.into_vec())?;
-    let ReadTexts { config, read } = texts;
-    let ReadTasks { tasks, asks } = read;
-    Ok(Meta {
-        alloc,
+    let shape = Shape {
         revision,
-        moment: greatest,
-        config: Some(config),
-        last_number: next - 1,
-        tasks,
-        asks,
+        greatest,
+        next,
         span_count,
         checkpoints,
         rows,
         retired,
-        spare: Vec::new(alloc),
-    })
+    };
+    match read_texts(alloc, config, tasks.into_vec())? {
+        Some(texts) => restore_read(alloc, shape, texts),
+        None => Err(RestoreError::BadText),
+    }
 }
 
 impl Meta {

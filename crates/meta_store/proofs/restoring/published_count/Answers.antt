@@ -1,14 +1,9 @@
-use Rattle.std.proofs.Common.{◌<◌, ◌≤◌, ap, arith, length}
-use Rattle.std.proofs.lemmas.List.{take_all}
-use Rattle.meta_store.specs.Laws.{published_spans}
+use Rattle.std.proofs.Common.{◌+◌, arith}
 use Rattle.meta_store.proofs.Counts.{shown_more, shown_most}
 use Rattle.meta_store.proofs.restoring.published_count.Goals as goal
 
-pub returns-then-more : goal.returns-then-more
-returns-then-more c = ?
-
-pub loop-row-preserved : goal.loop-row-preserved
-loop-row-preserved c = ?
-
-pub returns : goal.returns
-returns c = ?
+pub returns-then-more-count : goal.returns-then-more-count
+returns-then-more-count c = λ few.
+    let more = shown_more c.args.rows.now c.loop-row.row-index c.row-item.result c.loop-row-test.true c.row-item.is in
+    let most = shown_most c.args.rows.now (c.loop-row.row-index + 1) in
+    omega (arith, few, more, most, c.loop-row.invariant.so_far, c.loop-row.invariant.few, c.shown_count-more.ensures, c.if-more-count.true)
