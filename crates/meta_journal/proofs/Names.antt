@@ -1,6 +1,6 @@
 -- The test on the name of a partition.
 use Rattle.std.proofs.Common.{◌≡◌, ℕ, ◌^◌, ◌<◌, Bool, true, false, List, [], ◌∷◌, length, get_or, Ok, Err, refl, arith, inl, inr, lit<}
-use Rattle.std.specs.Prelude.{IsTrue, slice_index}
+use Rattle.std.specs.Prelude.{IsTrue, ◌&&◌, slice_index}
 use Rattle.std.specs.List.{AllByRecursion, list_all}
 use Rattle.std.specs.Str.{IsUtf8}
 use Rattle.std.proofs.lemmas.Str.{IsUtf8-from_ascii}
