@@ -1,5 +1,5 @@
 -- A configuration that lets documents go has a timestamp field.
-use Rattle.std.proofs.Common.{◌≡◌, ℕ, suc, Bool, true, false, ◌&&◌, ◌||◌, List, [], ◌∷◌, Option, Some, None, Ok, refl, sym, ap, subst, ◌∙◌, inl, inr}
+use Rattle.std.proofs.Common.{◌≡◌, ℕ, suc, Bool, true, false, ◌&&◌, ◌||◌, List, [], ◌∷◌, Option, Some, None, Ok, refl, sym, subst, inl, inr}
 use Rattle.std.specs.Prelude.{IsSome, is_some}
 use Rattle.std.proofs.lemmas.Bool.{cases_Bool, or_cases, and_parts, false≢true}
 use Rattle.std.specs.Ordering.{nat_cmp, is_lt}
@@ -8,7 +8,6 @@ use Rattle.std.specs.Str.{bytes_eq}
 use Rattle.toml.specs.Data.{Data, Items, get}
 use Rattle.doc_value.specs.Documents.{number_from}
 use Rattle.doc_value.specs.declared.schema.Kind.{Kind}
-use Rattle.doc_value.specs.declared.schema.Kind.TheVariants as kinds
 use Rattle.index_config.specs.Answer.{config_answer}
 use Rattle.index_config.specs.Fields.{all_raws, has_path, is_date_kind, has_such, timestamp_faults, timestamp_path, has_retention, placed, sorted_by, in_order, fields_of, number_named, retention_in}
 use Rattle.index_config.specs.Tables.{retention_path}

@@ -176,8 +176,10 @@ module _ (bytes : List ℕ) where
       (λ r. varint r.0 ++ (state_spelled r.1.0 ++ (varint r.1.1.0 ++ (varint r.1.1.1.0 ++ (varint r.1.1.1.1.0 ++ (counted span_spelled r.1.1.1.1.1.0 ++ facts_spelled r.1.1.1.1.1.1))))))
       (CanRowParts (last_of before)) row_spelled (λ row. CanSpellRow row × IsAbove IsRowBelow before row)
       (λ r. refl) (λ r. refl)
-      (λ r h. (record { number = h.0.0; staged_at = h.1.1.0; marked_at = h.1.1.1.0; merge_ops = h.1.1.1.1.0; spans = h.1.1.1.1.1.0; facts = h.1.1.1.1.1.1 },
-          row_behind (record { number = r.0; state = r.1.0; staged_at = r.1.1.0; marked_at = r.1.1.1.0; merge_ops = r.1.1.1.1.0; spans = r.1.1.1.1.1.0; facts = r.1.1.1.1.1.1 }) (last_of before) h.0.1))
+      (λ r h. (
+        record { number = h.0.0; staged_at = h.1.1.0; marked_at = h.1.1.1.0; merge_ops = h.1.1.1.1.0; spans = h.1.1.1.1.1.0; facts = h.1.1.1.1.1.1 },
+        row_behind (record { number = r.0; state = r.1.0; staged_at = r.1.1.0; marked_at = r.1.1.1.0; merge_ops = r.1.1.1.1.0; spans = r.1.1.1.1.1.0; facts = r.1.1.1.1.1.1 }) (last_of before) h.0.1,
+      ))
       (λ r h. ((h.0.number, behind_row r (last_of before) h.1), (tt, (h.0.staged_at, (h.0.marked_at, (h.0.merge_ops, (h.0.spans, h.0.facts)))))))
       (both_exact bytes _ _ varint _ (λ n. IsNumber n × NumberBehind (last_of before) n) _ (row_number_exact before)
       (both_exact bytes _ _ state_spelled _ (λ state. Unit {0}) _ row_state_exact

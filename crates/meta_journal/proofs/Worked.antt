@@ -1,5 +1,5 @@
 -- The bytes of a state behind its Create alone, in both formats.
-use Rattle.std.proofs.Common.{◌≡◌, ℕ, List, [], ◌∷◌, ◌++◌, refl}
+use Rattle.std.proofs.Common.{◌≡◌, [], ◌∷◌, refl}
 use Rattle.byte_fields.specs.Spelling.{varint}
 use Rattle.meta_journal.specs.declared.state_parts.StateParts.{StateParts}
 use Rattle.meta_journal.specs.Snapshots.{parts_spelled, parts_spelled_before}

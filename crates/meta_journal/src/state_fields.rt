@@ -158,11 +158,7 @@ fn is_range_above(before: &[Offsets], range: Offsets) -> bool
 
 // A count that is not 0, and so many ranges.
 #[tactic(auto, unfolding(crate::specs::SnapshotReading::ranges_at))]
-fn take_ranges(
-    alloc: Global,
-    bytes: &[u8],
-    at: usize,
-) -> Result<(List<Offsets>, usize), EntryError>
+fn take_ranges(alloc: Global, bytes: &[u8], at: usize) -> Result<(List<Offsets>, usize), EntryError>
     requires { at ≤ length bytes.now }
     ensures exact { Reads result (spec.ranges_at bytes.now at) }
     ensures within { IfOk result (λ x. x.1 ≤ length bytes.now) }

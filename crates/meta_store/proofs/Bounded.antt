@@ -1,15 +1,12 @@
 -- The bounds of numbers, moments and counts that each legal history keeps.
-use Rattle.std.proofs.Common.{◌≡◌, ℕ, ◌+◌, ◌-◌, ◌<◌, ◌≤◌, ◌==◌, true, false, cond, not, max, List, [], ◌∷◌, ◌++◌, length, map, Option, Some, None, refl, ap, sym, ◌∙◌, arith, inl, inr}
-use Rattle.std.proofs.lemmas.Bool.{cases_Bool}
+use Rattle.std.proofs.Common.{◌≡◌, ℕ, ◌+◌, ◌-◌, ◌<◌, ◌≤◌, ◌==◌, true, false, cond, not, max, List, [], ◌∷◌, length, map, Option, Some, None, refl, ◌∙◌, arith}
 use Rattle.std.proofs.lemmas.List.{length-append}
 use Rattle.std.proofs.lemmas.List.Elements.{All-from_recursion}
 use Rattle.meta_journal.specs.declared.entry.Act.{Act}
 use Rattle.meta_journal.specs.declared.entry.Act.TheVariants.{Fence, Create, Stage, Publish, Replace, Raise, MarkStaged, Remove, Retire, Task as AddTask}
 use Rattle.source_checkpoint.specs.Deltas.{spans_of, raised}
-use Rattle.source_checkpoint.specs.declared.delta.Part.{Part}
 use Rattle.source_checkpoint.specs.declared.span.Span.{Span}
-use Rattle.split_states.specs.Rows.{change, change_each, without, without_each, marked, published, staged, replacing, raised_row, joined_spans, merged_ops, row_ranges}
-use Rattle.split_states.specs.declared.facts.RowFacts.{RowFacts}
+use Rattle.split_states.specs.Rows.{change, change_each, without, without_each, marked, published, staged, replacing, raised_row, joined_spans, merged_ops}
 use Rattle.split_states.specs.declared.rows.Row.{Row}
 use Rattle.meta_store.proofs.ByWords.{first_only}
 use Rattle.meta_store.proofs.Current.{AllOf-change, AllOf-change_each, AllOf-without_each}

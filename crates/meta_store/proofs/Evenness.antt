@@ -1,5 +1,5 @@
 -- The walk over ranges in order finds the first partition that they don't cover once.
-use Rattle.std.proofs.Common.{◌≡◌, ℕ, zero, suc, ◌+◌, ◌-◌, ◌<◌, ◌≤◌, ◌==◌, ◌&&◌, Bool, true, false, cond, List, [], ◌∷◌, ◌++◌, take, drop, Option, Some, None, nat_lt, nat_le, sum_by, IsPermutation, IsSorted, bytes_eq, ◌⊎◌, refl, sym, ap, subst, ◌∙◌, arith, inl, inr, le-leb, lt-ltb, le-ltb, eq-eqb, eqb-true, Ordering, Less, Equal, Greater, is_lt, is_gt}
+use Rattle.std.proofs.Common.{◌≡◌, ℕ, ◌+◌, ◌-◌, ◌<◌, ◌≤◌, ◌==◌, ◌&&◌, Bool, true, false, cond, List, [], ◌∷◌, ◌++◌, take, drop, Option, Some, None, nat_lt, nat_le, bytes_eq, ◌⊎◌, refl, sym, ap, subst, ◌∙◌, arith, inl, inr, le-leb, lt-ltb, le-ltb, eq-eqb, eqb-true, Ordering, Less, Equal, Greater, is_lt, is_gt}
 use Rattle.std.specs.Ordering.{nat_cmp, ordering_then, is_eq}
 use Rattle.std.specs.Cmp.{IsTotalOrder, nat_cmp_is}
 use Rattle.std.specs.Cmp.Lexicographic.{slice_cmp, nat_list_cmp_total}
@@ -20,7 +20,7 @@ use Rattle.meta_store.proofs.Joined.{IsForward, held_by}
 use Rattle.meta_store.proofs.Lists.{IsPermutation-same}
 use Rattle.meta_store.proofs.RowLists.{AllOf, AllOf-append, AllOf-front, AllOf-back, AllOf-weaker, AllOf-both}
 use Rattle.meta_store.specs.Laws.{holds_place, times_at, of_partition, Covers}
-use Rattle.meta_store.specs.Restoring.{IsEvenIn, IsFirstUneven, FindsUneven}
+use Rattle.meta_store.specs.Restoring.{IsEvenIn, FindsUneven}
 use Rattle.meta_store.specs.Uneven.{range_order, own_count, leads, first_partition, begins_before, first_uneven}
 
 -- ---- the order

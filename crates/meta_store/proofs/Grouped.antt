@@ -1,6 +1,5 @@
 -- Retired ranges by their partitions, as a snapshot spells them.
-use Rattle.std.proofs.Common.{◌≡◌, ◌⊎◌, ℕ, ◌+◌, ◌<◌, ◌≤◌, ◌^◌, true, false, cond, List, [], ◌∷◌, ◌++◌, length, fold, map, Option, Some, None, bytes_eq, refl, sym, ap, subst, ◌∙◌, append_assoc, arith, inl, inr}
-use Rattle.std.specs.List.{AllByRecursion}
+use Rattle.std.proofs.Common.{◌≡◌, ℕ, ◌+◌, ◌<◌, ◌≤◌, ◌^◌, false, List, [], ◌∷◌, ◌++◌, length, fold, map, Option, Some, None, bytes_eq, sym, ap, subst, ◌∙◌, append_assoc, arith, inl, inr}
 use Rattle.std.proofs.lemmas.Bool.{cases_Bool, false≢true}
 use Rattle.std.proofs.lemmas.List.{length-append, length-map}
 use Rattle.source_checkpoint.proofs.Ranges.{same_partition, partition_itself}
@@ -8,7 +7,7 @@ use Rattle.source_checkpoint.specs.Names.{IsPartition}
 use Rattle.source_checkpoint.specs.declared.delta.Part.{Part}
 use Rattle.meta_journal.proofs.KeyOrder.{IsLess, never_less_itself}
 use Rattle.meta_journal.specs.Snapshots.{CanSpellOffsets, IsRangeBelow, CanSpellRetired, IsRetiredBelow}
-use Rattle.meta_journal.specs.Spelling.{IsNumber, AreAll, IsBehind, RisesFrom, Rises, CanSpellPart}
+use Rattle.meta_journal.specs.Spelling.{AreAll, IsBehind, RisesFrom, Rises, CanSpellPart}
 use Rattle.meta_journal.specs.declared.state_parts.Offsets.{Offsets}
 use Rattle.meta_journal.specs.declared.state_parts.RetiredRanges.{RetiredRanges}
 use Rattle.meta_store.proofs.Parted.{flat_behind, flat_same}
@@ -62,8 +61,7 @@ name_before g r other some h = by g.ranges some h
 
 joined_is : (g : RetiredRanges) (r : Part) → IsRange r → IsGroup g → g.partition ≡ r.partition → IsAfter g r → IsGroup (joined_by g r)
 joined_is g r h i same after =
-    let places : AllOf (λ o. o.to < r.from) g.ranges = places_before g r g.ranges same after in
-    (
+    let places : AllOf (λ o. o.to < r.from) g.ranges = places_before g r g.ranges same after in (
       i.0,
       omega (arith, length-append g.ranges (offsets_of r ∷ [])),
       AllOf-append CanSpellOffsets g.ranges (offsets_of r ∷ []) i.2 (offsets_can r h, tt),
@@ -137,6 +135,6 @@ grouped_spelled ranges few h j =
     let ok : AreGroups None (by_partition ranges) = fold_ok ranges [] h (tt, tt) j in
     let count : length (all_retired (by_partition ranges)) ≡ length ranges = ap length (flat_same ranges) in
     let each : AllOf (λ g. length g.ranges < 2 ^ 64) (by_partition ranges) =
-        AllOf-weaker (λ g. length g.ranges ≤ length ranges) (λ g. length g.ranges < 2 ^ 64) (by_partition ranges) (λ g le. omega (arith, le, few)) (group_fits (by_partition ranges) (length ranges) (omega (arith, count))) in
+    AllOf-weaker (λ g. length g.ranges ≤ length ranges) (λ g. length g.ranges < 2 ^ 64) (by_partition ranges) (λ g le. omega (arith, le, few)) (group_fits (by_partition ranges) (length ranges) (omega (arith, count))) in
     let groups = groups_few (by_partition ranges) ok.0 in
     ((omega (arith, groups, count, few), each_spelled (by_partition ranges) ok.0 each), ok.1)

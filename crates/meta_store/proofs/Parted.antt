@@ -1,10 +1,9 @@
 -- A state is made anew from its parts.
-use Rattle.std.proofs.Common.{◌≡◌, ℕ, zero, suc, ◌+◌, ◌-◌, ◌<◌, get_or, set, true, false, cond, List, [], ◌∷◌, ◌++◌, length, map, fold, flat_map, Option, Some, None, Result, Ok, Err, IsOk, bytes_eq, refl, sym, ap, subst, ◌∙◌, append_assoc, append-nil, arith, inl, inr}
+use Rattle.std.proofs.Common.{◌≡◌, ℕ, zero, suc, ◌+◌, ◌-◌, ◌<◌, get_or, set, true, false, List, [], ◌∷◌, ◌++◌, length, map, fold, Option, Some, None, Result, Ok, Err, IsOk, bytes_eq, refl, sym, ap, subst, ◌∙◌, append_assoc, append-nil, arith, inl, inr}
 use Rattle.std.proofs.lemmas.Bool.{cases_Bool, false≢true}
 use Rattle.std.proofs.lemmas.List.{map-append}
 use Rattle.delete_tasks.specs.Ledger.{last_of}
 use Rattle.delete_tasks.specs.Removes.{DeleteTask}
-use Rattle.doc_value.specs.declared.facts.TimeRange.{TimeRange}
 use Rattle.index_config.specs.declared.config_error.ConfigError.{ConfigError}
 use Rattle.meta_journal.specs.declared.entry.Act.{Act}
 use Rattle.meta_journal.specs.declared.entry.Act.TheVariants.{Fence, Create, Stage, Publish, Replace, Raise, MarkStaged, Remove, Retire, Task as AddTask}
@@ -12,8 +11,6 @@ use Rattle.meta_journal.specs.declared.state_parts.Offsets.{Offsets}
 use Rattle.meta_journal.specs.declared.state_parts.RetiredRanges.{RetiredRanges}
 use Rattle.source_checkpoint.proofs.Ranges.{same_partition}
 use Rattle.source_checkpoint.specs.declared.delta.Part.{Part}
-use Rattle.meta_store.proofs.Current.{opstamps_agree}
-use Rattle.meta_store.proofs.RowLists.{AllOf}
 use Rattle.meta_store.specs.History.{History}
 use Rattle.meta_store.specs.History.History.{Start, ◌▸◌}
 use Rattle.meta_store.specs.Laws.{published_spans}

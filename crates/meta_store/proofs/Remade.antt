@@ -1,13 +1,10 @@
 -- What is kept of parts is what they were, and what the ranges of their numbers say.
-use Rattle.std.proofs.Common.{◌≡◌, ℕ, zero, suc, ◌+◌, ◌-◌, ◌<◌, ◌≤◌, ◌==◌, ◌&&◌, Bool, true, false, cond, List, [], ◌∷◌, ◌++◌, length, map, take, drop, get_or, Option, Some, None, Result, Ok, Err, nat_lt, nat_le, refl, sym, ap, subst, ◌∙◌, append_assoc, append-nil, arith, inl, inr, eqb-true}
+use Rattle.std.proofs.Common.{◌≡◌, ℕ, ◌+◌, ◌-◌, ◌<◌, ◌≤◌, ◌==◌, Bool, true, false, cond, List, [], ◌∷◌, ◌++◌, length, map, take, get_or, Option, Some, None, Result, Ok, Err, nat_lt, nat_le, refl, sym, ap, subst, ◌∙◌, append_assoc, append-nil, arith, eqb-true}
 use Rattle.std.specs.Prelude.{is_ok, SomeIff}
-use Rattle.std.specs.List.{list_all, AllByRecursion}
-use Rattle.std.specs.Ordering.{nat_cmp}
-use Rattle.std.specs.Cmp.Lexicographic.{slice_cmp}
+use Rattle.std.specs.List.{list_all}
 use Rattle.std.specs.FinMap.Entries.{by_order}
 use Rattle.std.specs.declared.cmp.Ordering.{Ordering}
-use Rattle.std.specs.declared.cmp.Ordering.TheVariants.{Less, Equal, Greater}
-use Rattle.std.proofs.lemmas.Bool.{and_parts, leb-true, ltb-true, le-leb, false≢true}
+use Rattle.std.proofs.lemmas.Bool.{and_parts, leb-true, ltb-true}
 use Rattle.std.proofs.lemmas.List.{take_more, map-append, length-map}
 use Rattle.std.proofs.lemmas.List.Elements.{All-from_recursion}
 use Rattle.std.proofs.lemmas.Grind.{flat_map-append}
@@ -37,7 +34,7 @@ use Rattle.meta_store.specs.Laws.{shown, published_spans}
 use Rattle.meta_store.specs.Parts.{range_in, ranges_in, all_retired, task_under, task_read, ask_of, state_from}
 use Rattle.meta_store.specs.Planning.{is_within}
 use Rattle.meta_store.specs.Readings.{Reads, configured}
-use Rattle.meta_store.specs.Restoring.{row_fits, span_fits, spans_fit, numbered_from, numbers_fit, tasks_fit, fits, reads_task, has_texts, CanRestore, Restores}
+use Rattle.meta_store.specs.Restoring.{row_fits, span_fits, spans_fit, numbered_from, numbers_fit, tasks_fit, fits, reads_task, has_texts, Restores}
 use Rattle.meta_store.specs.Room.{Kept, MergedUpTo}
 use Rattle.meta_store.specs.Shaped.{IsShaped, shaped, RestoresShape}
 use Rattle.meta_store.specs.State.{State}

@@ -1,43 +1,41 @@
 -- The parts of each legal history's state can be restored, and give that state.
-use Rattle.std.proofs.Common.{◌≡◌, ℕ, suc, ◌+◌, ◌<◌, ◌≤◌, ◌==◌, ◌&&◌, Bool, true, false, cond, List, [], ◌∷◌, ◌++◌, length, map, Option, Some, None, Result, Ok, Err, IsOk, IsPermutation, nat_lt, nat_le, sum_by, refl, sym, ap, subst, ◌∙◌, arith, inl, inr, le-leb, lt-ltb, eq-eqb}
+use Rattle.std.proofs.Common.{◌≡◌, ℕ, suc, ◌+◌, ◌<◌, ◌≤◌, ◌==◌, Bool, true, cond, List, [], ◌∷◌, length, map, Option, Some, Result, Ok, nat_lt, nat_le, refl, sym, ap, subst, ◌∙◌, arith, le-leb, lt-ltb, eq-eqb}
 use Rattle.std.specs.Prelude.{is_ok}
 use Rattle.std.specs.List.{list_all}
 use Rattle.std.proofs.lemmas.Bool.{and_from}
 use Rattle.std.proofs.lemmas.List.Sums.{sum_by-append}
 use Rattle.std.proofs.lemmas.List.Sorted.{length_permutation, sum_by-IsPermutation, IsPermutation-map}
-use Rattle.delete_tasks.specs.Ledger.{last_of}
 use Rattle.delete_tasks.specs.Removes.{DeleteTask}
 use Rattle.index_config.specs.declared.config_error.ConfigError.{ConfigError}
 use Rattle.meta_journal.specs.declared.entry.Entry.{Entry}
 use Rattle.meta_journal.specs.declared.state_parts.StateParts.{StateParts}
-use Rattle.source_checkpoint.specs.Deltas.{Partition, range_of, span_of, spans_of, IsSpan}
-use Rattle.source_checkpoint.specs.Checkpoints.{checkpoint_at}
+use Rattle.source_checkpoint.specs.Deltas.{Partition, range_of, spans_of, IsSpan}
 use Rattle.source_checkpoint.specs.declared.delta.Part.{Part}
 use Rattle.source_checkpoint.specs.declared.span.Span.{Span}
 use Rattle.split_states.specs.Due.{is_staged}
 use Rattle.split_states.specs.declared.rows.Row.{Row}
 use Rattle.split_states.specs.declared.rows.RowState.{RowState}
 use Rattle.split_states.specs.declared.rows.RowState.TheVariants.{Staged, Published, Marked}
-use Rattle.meta_store.proofs.Bounded.{IsGiven, IsBounded, bounded, begun, made}
+use Rattle.meta_store.proofs.Bounded.{IsGiven, bounded, begun, made}
 use Rattle.meta_store.proofs.Counted.{counted}
 use Rattle.meta_store.proofs.Covering.{one_if, once_at}
 use Rattle.meta_store.proofs.Current.{opstamps_agree}
-use Rattle.meta_store.proofs.Formed.{IsGood, IsShaped, shaped}
-use Rattle.meta_store.proofs.Kept.{IsKept, kept}
+use Rattle.meta_store.proofs.Formed.{IsGood, shaped}
+use Rattle.meta_store.proofs.Kept.{kept}
 use Rattle.meta_store.proofs.Parted.{AreRead, HasRead, has_read, flat_same, state_same}
 use Rattle.meta_store.proofs.RowLists.{AllOf, AllOf-both}
-use Rattle.meta_store.proofs.Sound.{Traced, IsSound, sound}
-use Rattle.meta_store.proofs.Tallied.{IsTallied, tallied}
+use Rattle.meta_store.proofs.Sound.{Traced, sound}
+use Rattle.meta_store.proofs.Tallied.{tallied}
 use Rattle.meta_store.specs.History.{History, history, revision_of, moment_of, last_number, last_opstamp, stamp_of, delta_of}
 use Rattle.meta_store.specs.Laws.{NumberedFrom, published_spans, holds_place, times_at}
 use Rattle.meta_store.specs.Laws as laws
 use Rattle.meta_store.specs.Ledgers.{ledger}
-use Rattle.meta_store.specs.Parts.{asked, parts_of, all_retired, by_partition, state_from}
+use Rattle.meta_store.specs.Parts.{asked, parts_of, all_retired, state_from}
 use Rattle.meta_store.specs.Planning.{is_within}
 use Rattle.meta_store.specs.Readings.{Reads, config_of}
 use Rattle.meta_store.specs.Restoring.{row_fits, span_fits, is_fresh, spans_fit, numbered_from, numbers_fit, tasks_fit, fits, reads_task, texts_read, has_texts, all_ranges, IsEvenAt, CanRestore}
 use Rattle.meta_store.specs.Rows.{rows}
-use Rattle.meta_store.specs.State.{State, state_of, span_count_of, checkpoints_of, retired_of, Legal}
+use Rattle.meta_store.specs.State.{state_of, span_count_of, retired_of, Legal}
 use Rattle.meta_store.specs.Tasks.{tasks_of, asks_of}
 use Rattle.meta_store.specs.declared.config.Config.{Config}
 use Rattle.meta_store.specs.declared.config.Settings.{Settings}
@@ -129,16 +127,16 @@ module _ (reads : Reads) (h : History) (l : Legal reads h) (config : Config) (is
       let count : length parts.tasks ≡ length (tasks_of reads h) = asked_count reads config.settings (tasks_of reads h) (asks_of h) read.1 in
       let spans : length (published_spans (rows h)) ≤ 1000000 = let low = b.span_count in omega (arith, published_count, low) in
       let each : AllOf (λ row. IsGiven (moment_of h) (revision_of h) row × (row.number ≤ last_number h)) (rows h) =
-          AllOf-both (IsGiven (moment_of h) (revision_of h)) (λ row. row.number ≤ last_number h) (rows h) b.given (sound reads h l).held.below in
+      AllOf-both (IsGiven (moment_of h) (revision_of h)) (λ row. row.number ≤ last_number h) (rows h) b.given (sound reads h l).held.below in
       let good : AllOf (λ row. IsGood (last_opstamp h) row × Traced h row) (rows h) = AllOf-both (IsGood (last_opstamp h)) (Traced h) (rows h) (shaped reads h l).good (sound reads h l).held.each in
       let fit : list_all (spans_fit (length parts.tasks)) (rows h) ≡ true =
-          subst (λ (n : ℕ). list_all (spans_fit n) (rows h) ≡ true) (sym task_count) (all_pass (λ row. IsGood (last_opstamp h) row × Traced h row) (spans_fit (last_opstamp h)) (rows h) (spans_pass h) good) in
+      subst (λ (n : ℕ). list_all (spans_fit n) (rows h) ≡ true) (sym task_count) (all_pass (λ row. IsGood (last_opstamp h) row × Traced h row) (spans_fit (last_opstamp h)) (rows h) (spans_pass h) good) in
       and_from (numbers_fit parts) _
       (and_from (is_within 1 10000000 (revision_of h)) _ (within_from 1 10000000 (revision_of h) some most)
       (and_from (is_within 1 (revision_of h) (last_number h + 1)) _ (within_from 1 (revision_of h) (last_number h + 1) (omega arith) (omega (arith, next))) (le-leb (length (rows h)) 100000 b.row_count)))
       (and_from (list_all (row_fits (revision_of h) (moment_of h) (last_number h + 1)) (rows h)) _ (all_pass _ (row_fits (revision_of h) (moment_of h) (last_number h + 1)) (rows h) (row_passes (revision_of h) (moment_of h) (last_number h)) each)
       (and_from (tasks_fit parts.tasks) _
-          (and_from (nat_le (length parts.tasks) 10000) _ (le-leb (length parts.tasks) 10000 (omega (arith, count, few))) (asked_numbers reads config.settings 1 (tasks_of reads h) (asks_of h) read.1 (tallied reads h l).numbered))
+      (and_from (nat_le (length parts.tasks) 10000) _ (le-leb (length parts.tasks) 10000 (omega (arith, count, few))) (asked_numbers reads config.settings 1 (tasks_of reads h) (asks_of h) read.1 (tallied reads h l).numbered))
       (and_from (list_all (spans_fit (length parts.tasks)) (rows h)) _ fit (le-leb (length (published_spans (rows h))) 1000000 spans))))
 
   pub texts : has_texts reads parts ≡ true
@@ -155,7 +153,7 @@ module _ (reads : Reads) (h : History) (l : Legal reads h) (config : Config) (is
       let split : times_at p offset (all_ranges parts) ≡ times_at p offset (map range_of (published_spans (rows h))) + times_at p offset (all_retired parts.retired) = sum_by-append holds (map range_of (published_spans (rows h))) (all_retired parts.retired) in
       let back : times_at p offset (laws.all_ranges (ledger reads h)) ≡ times_at p offset (map range_of (ledger reads h).spans) + times_at p offset (ledger reads h).retired = sum_by-append holds (map range_of (ledger reads h).spans) (ledger reads h).retired in
       let live : times_at p offset (map range_of (published_spans (rows h))) ≡ times_at p offset (map range_of (ledger reads h).spans) =
-          sym (sum_by-IsPermutation holds (map range_of (published_spans (rows h))) (map range_of (ledger reads h).spans) (IsPermutation-map range_of (published_spans (rows h)) (ledger reads h).spans once.each_once)) in
+      sym (sum_by-IsPermutation holds (map range_of (published_spans (rows h))) (map range_of (ledger reads h).spans) (IsPermutation-map range_of (published_spans (rows h)) (ledger reads h).spans once.each_once)) in
       let gone : times_at p offset (all_retired parts.retired) ≡ times_at p offset (ledger reads h).retired = ap (times_at p offset) flat ∙ (kept reads h l).same p offset in
       let whole : times_at p offset (all_ranges parts) ≡ times_at p offset (laws.all_ranges (ledger reads h)) = omega (arith, split, back, live, gone) in
       whole ∙ (once_at p offset ((ledger reads h).checkpoints p) (laws.all_ranges (ledger reads h)) (once.covers p) ∙ ap (λ (n : ℕ). one_if (nat_lt offset n)) (sym ((sound reads h l).agree p)))

@@ -1,5 +1,5 @@
 -- The parts of each legal history's state can be spelled, where its entries can.
-use Rattle.std.proofs.Common.{◌≡◌, ℕ, suc, ◌+◌, ◌*◌, ◌-◌, ◌<◌, ◌≤◌, ◌^◌, ◌==◌, Bool, true, false, cond, max, List, [], ◌∷◌, ◌++◌, length, map, fold, Option, Some, None, Result, Ok, Err, IsOk, IsPermutation, nat_lt, refl, sym, ap, subst, ◌∙◌, arith, inl, inr}
+use Rattle.std.proofs.Common.{◌≡◌, ℕ, suc, ◌+◌, ◌*◌, ◌-◌, ◌<◌, ◌≤◌, ◌^◌, ◌==◌, Bool, true, false, cond, max, List, [], ◌∷◌, ◌++◌, length, map, fold, Option, Some, None, Result, Ok, Err, nat_lt, refl, sym, ap, subst, arith}
 use Rattle.std.specs.Prelude.{⊤}
 use Rattle.std.specs.List.{AllByRecursion}
 use Rattle.std.specs.Ordering.{nat_cmp}
@@ -13,22 +13,20 @@ use Rattle.delete_tasks.specs.Removes.{DeleteTask}
 use Rattle.index_config.specs.declared.config_error.ConfigError.{ConfigError}
 use Rattle.meta_journal.proofs.KeyOrder.{IsLess, less_then, above_key, same_key}
 use Rattle.meta_journal.specs.Snapshots.{IsMoment, CanSpellCheckpoint, IsCheckpointBelow, CanSpellTask, CanSpellSpan, CanSpellRow, IsRowBelow, CanSpellParts}
-use Rattle.meta_journal.specs.Spelling.{IsNumber, IsString, AreAll, RisesFrom, Rises, CanSpellPart, CanSpellFacts, CanSpellAct, CanSpell}
+use Rattle.meta_journal.specs.Spelling.{IsString, RisesFrom, CanSpellPart, CanSpellFacts, CanSpellAct, CanSpell}
 use Rattle.meta_journal.specs.declared.entry.Act.{Act}
 use Rattle.meta_journal.specs.declared.entry.Act.TheVariants.{Fence, Create, Stage, Publish, Replace, Raise, MarkStaged, Remove, Retire, Task as AddTask}
 use Rattle.meta_journal.specs.declared.entry.Entry.{Entry}
-use Rattle.merge_policy.proofs.Orders.{Ascends}
 use Rattle.source_checkpoint.specs.Checkpoints.{end_of, move_to, move_all}
 use Rattle.source_checkpoint.specs.Deltas.{range_of, span_of, spans_of, raised, IsSpan}
 use Rattle.source_checkpoint.specs.declared.delta.Part.{Part}
 use Rattle.source_checkpoint.specs.declared.ledger.Checkpoint.{Checkpoint}
 use Rattle.source_checkpoint.specs.declared.span.Span.{Span}
 use Rattle.split_states.specs.Answers.{AreApart, IsIn, MayRetire}
-use Rattle.split_states.specs.Rows.{row_at, row_spans, row_ranges, joined_spans, change, change_each, without_each, marked, published, staged, replacing, raised_row, merged_ops}
-use Rattle.split_states.specs.declared.facts.RowFacts.{RowFacts}
+use Rattle.split_states.specs.Rows.{row_at, row_spans, row_ranges, joined_spans, change_each, marked, published, staged, replacing, raised_row, merged_ops}
 use Rattle.split_states.specs.declared.rows.Row.{Row}
 use Rattle.split_states.specs.declared.rows.RowState.TheVariants.{Published}
-use Rattle.meta_store.proofs.Bounded.{IsGiven, IsBounded, bounded}
+use Rattle.meta_store.proofs.Bounded.{IsGiven, bounded}
 use Rattle.meta_store.proofs.Counted.{counted}
 use Rattle.meta_store.proofs.Current.{AllOf-change, AllOf-change_each, AllOf-without_each}
 use Rattle.meta_store.proofs.Evenness.{NamesRise}
@@ -37,18 +35,17 @@ use Rattle.meta_store.proofs.Grouped.{IsRange, grouped_spelled}
 use Rattle.meta_store.proofs.Joined.{IsForward, joined_forward}
 use Rattle.meta_store.proofs.Kept.{kept}
 use Rattle.meta_store.proofs.Moves.{spans_taken}
-use Rattle.meta_store.proofs.RowLists.{AllOf, AllOf-append, AllOf-weaker, AllOf-both, the_row}
-use Rattle.meta_store.proofs.Sound.{IsSound, sound, apart_rising, published_of}
+use Rattle.meta_store.proofs.RowLists.{AllOf, AllOf-append, AllOf-weaker, AllOf-both}
+use Rattle.meta_store.proofs.Sound.{sound, apart_rising, published_of}
 use Rattle.meta_store.proofs.Tallied.{tallied}
 use Rattle.meta_store.specs.History.{History, history, at, revision_of, moment_of, last_number, last_opstamp}
 use Rattle.meta_store.specs.History.History.{Start, ◌▸◌}
 use Rattle.meta_store.specs.Laws.{RowsRise, published_spans}
 use Rattle.meta_store.specs.Ledgers.{ledger}
 use Rattle.meta_store.specs.Parts.{config_text, asked_task, asked, parts_of}
-use Rattle.meta_store.specs.Readings.{Reads, query_said, reading_of, config_of, config_after, configured}
+use Rattle.meta_store.specs.Readings.{Reads, query_said, reading_of, config_of, configured}
 use Rattle.meta_store.specs.Retired.{with_range, with_ranges}
 use Rattle.meta_store.specs.Rows.{rows}
-use Rattle.meta_store.specs.Said.{Said}
 use Rattle.meta_store.specs.State.{state_of, checkpoints_of, retired_of, span_count_of, Begins, Follows, MayCome, Legal}
 use Rattle.meta_store.specs.Tasks.{task_of, tasks_of, asks_of}
 use Rattle.meta_store.specs.declared.config.Config.{Config}
@@ -366,15 +363,17 @@ span_whole last (s ∷ spans) few h g =
 rows_whole : (moment revision last top : ℕ) (rows : List Row) → IsMoment moment → revision ≤ 10000000 → last < 2 ^ 64 → top < 2 ^ 64 → AllOf (IsGiven moment revision) rows → AllOf (λ row. row.number ≤ top) rows → AllOf HasSpelled rows → AllOf (IsGood last) rows → AllOf CanSpellRow rows
 rows_whole moment revision last top [] late few small high g n h good = tt
 rows_whole moment revision last top (row ∷ rows) late few small high g n h good =
-    let low : row.number ≤ top = n.0 in
-    (record {
-      number = omega (arith, low, high);
-      staged_at = let le = g.0.staged in omega (arith, le, late);
-      marked_at = let le = g.0.marked in omega (arith, le, late);
-      merge_ops = let lt = g.0.merged in omega (arith, lt, few);
-      spans = (h.0.0, span_whole last row.spans small h.0.1 good.0);
-      facts = h.0.2;
-    }, rows_whole moment revision last top rows late few small high g.1 n.1 h.1 good.1)
+    let low : row.number ≤ top = n.0 in (
+      record {
+        number = omega (arith, low, high);
+        staged_at = let le = g.0.staged in omega (arith, le, late);
+        marked_at = let le = g.0.marked in omega (arith, le, late);
+        merge_ops = let lt = g.0.merged in omega (arith, lt, few);
+        spans = (h.0.0, span_whole last row.spans small h.0.1 good.0);
+        facts = h.0.2;
+      },
+      rows_whole moment revision last top rows late few small high g.1 n.1 h.1 good.1,
+    )
 
 rows_rise : (last : Option Row) (rows : List Row) → ((r : Row) → last ≡ Some r → AllOf (λ s. r.number < s.number) rows) → RowsRise rows → RisesFrom IsRowBelow last rows
 rows_rise last [] above rise = tt

@@ -1,5 +1,5 @@
 -- Steps of the walk over ranges, and what it says of ranges in another order.
-use Rattle.std.proofs.Common.{◌≡◌, ℕ, zero, suc, ◌+◌, ◌<◌, ◌≤◌, ◌==◌, ◌&&◌, true, false, List, [], ◌∷◌, ◌++◌, length, map, take, drop, get_or, Option, Some, None, IsPermutation, bytes_eq, refl, sym, ap, ◌∙◌, append_assoc, append-nil, arith}
+use Rattle.std.proofs.Common.{◌≡◌, ℕ, suc, ◌+◌, ◌<◌, ◌≤◌, ◌==◌, true, false, List, [], ◌∷◌, ◌++◌, length, map, take, drop, get_or, Option, Some, None, IsPermutation, bytes_eq, refl, sym, ap, ◌∙◌, append_assoc, append-nil, arith}
 use Rattle.std.proofs.lemmas.List.{take_more, take_all, map-append}
 use Rattle.std.proofs.lemmas.Grind.{flat_map-append}
 use Rattle.std.proofs.lemmas.List.Sorted.{sum_by-IsPermutation}
@@ -8,7 +8,6 @@ use Rattle.source_checkpoint.specs.declared.delta.Part.{Part}
 use Rattle.source_checkpoint.specs.declared.ledger.Checkpoint.{Checkpoint}
 use Rattle.source_checkpoint.specs.declared.span.Span.{Span}
 use Rattle.split_states.specs.declared.rows.Row.{Row}
-use Rattle.merge_policy.proofs.Orders.{Ascends}
 use Rattle.meta_journal.proofs.KeyOrder.{IsLess, less_then}
 use Rattle.meta_journal.specs.Spelling.{RisesFrom, Rises}
 use Rattle.meta_journal.specs.Snapshots.{IsCheckpointBelow}
@@ -16,7 +15,7 @@ use Rattle.meta_store.proofs.Covering.{one_if}
 use Rattle.meta_store.proofs.Evenness.{NamesRise}
 use Rattle.meta_store.proofs.Retiring.{next_of}
 use Rattle.meta_store.proofs.RowLists.{AllOf, AllOf-weaker}
-use Rattle.meta_store.specs.Laws.{holds_place, times_at, shown, published_spans}
+use Rattle.meta_store.specs.Laws.{holds_place, shown, published_spans}
 use Rattle.meta_store.specs.Restoring.{IsEvenIn, FindsUneven}
 use Rattle.meta_store.specs.Uneven.{own_count, leads}
 

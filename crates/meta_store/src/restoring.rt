@@ -14,14 +14,16 @@ ghost use Rattle.meta_store.specs.Restoring.{Restores};
 ghost use Rattle.meta_store.specs.Shaped.{IsShaped, shaped, RestoresShape};
 ghost use Rattle.meta_store.specs.Texts.{reads};
 
+use crate::checks::MOST_ROWS;
 use crate::config::{Config, TaskAsk};
 use crate::meta::Meta;
 use crate::texts::{query_of_task, settings_of};
 use crate::uneven::find_uneven;
 use byte_fields::{Bytes, List};
+use delete_tasks::tasks::MOST_TASKS;
 use delete_tasks::{Task, Tasks};
 use index_config::IndexConfig;
-use meta_journal::{AskedTask, RetiredRanges, StateParts};
+use meta_journal::{AskedTask, MAX_ENTRIES, RetiredRanges, StateParts};
 use query_ast::Query;
 use query_reader::QueryError;
 use source_checkpoint::{Checkpoint, Delta, Ledger, Part, Partition, Span};
@@ -29,12 +31,6 @@ use split_states::{Row, RowState, Rows};
 use std::alloc::{AllocError, Global};
 use std::mem;
 use thiserror::Error;
-
-const MOST_ENTRIES: u64 = 10_000_000;
-
-const MOST_ROWS: usize = 100_000;
-
-const MOST_TASKS: usize = 10_000;
 
 const MOST_SPANS: usize = 1_000_000;
 
@@ -72,7 +68,7 @@ fn numbers_fit(parts: &StateParts) -> bool
     ensures { result ≡ spec.numbers_fit parts.now }
 {
     1 <= parts.revision
-        && parts.revision <= MOST_ENTRIES
+        && parts.revision <= MAX_ENTRIES
         && 1 <= parts.next
         && parts.next <= parts.revision
         && parts.rows.len() <= MOST_ROWS

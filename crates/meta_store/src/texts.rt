@@ -18,7 +18,10 @@ use query_reader::{FieldNumbers, QueryError, read_query};
 use std::alloc::{AllocError, Global};
 
 /// What a configuration says of its index, or what is wrong with it.
-pub fn settings_of(alloc: Global, config: &[u8]) -> Result<Result<Settings, ConfigError>, AllocError>
+pub fn settings_of(
+    alloc: Global,
+    config: &[u8],
+) -> Result<Result<Settings, ConfigError>, AllocError>
     ensures { IfOk result (λ said. said ≡ spec.read_config config.now) }
 {
     match read_config(alloc, config) {
@@ -138,7 +141,9 @@ pub fn query_of_task(
 }
 
 /// What a reader said, unless it found no memory.
-pub fn unless_short(read: Result<Query, QueryError>) -> Result<Result<Query, QueryError>, AllocError>
+pub fn unless_short(
+    read: Result<Query, QueryError>,
+) -> Result<Result<Query, QueryError>, AllocError>
     ensures said { IfOk result (λ said. said ≡ read) }
     ensures heard { IfOk result (λ said. IfErr said (λ error. WantsMemory error → ⊥)) }
 {

@@ -62,11 +62,7 @@ fn push_ranges(ranges: &mut Vec<Part>, more: &[Part]) -> Result<(), AllocError>
 }
 
 /// The ranges of the published spans and the retired ones, in order.
-fn ordered_ranges(
-    alloc: Global,
-    rows: &[Row],
-    retired: &[Part],
-) -> Result<Vec<Part>, AllocError>
+fn ordered_ranges(alloc: Global, rows: &[Row], retired: &[Part]) -> Result<Vec<Part>, AllocError>
     ensures same { IfOk result (λ ranges. IsPermutation (map range_of (published_spans rows.now) ++ retired.now) ranges.items) }
     ensures order { IfOk result (λ ranges. IsSorted range_order ranges.items) }
 {

@@ -55,7 +55,10 @@ fn remade(alloc: Global, state: StateParts) -> Result<String, AllocError>
     match Meta::restore(alloc, state) {
         Ok(meta) => format!(in alloc;
             "{} {} {} {}",
-            meta.revision(), meta.next_number(), meta.last_opstamp(), meta.rows().len()
+            meta.revision(),
+            meta.next_number(),
+            meta.last_opstamp(),
+            meta.rows().len()
         ),
         Err(fault) => format!(in alloc; "{fault}"),
     }

@@ -1,4 +1,4 @@
-use Rattle.std.proofs.Common.{◌≡◌, [], fold, drop}
+use Rattle.std.proofs.Common.{◌≡◌, fold, drop}
 use Rattle.meta_store.specs.Parts.{put_behind, by_partition}
 use Rattle.meta_store.proofs.parts.by_partition.Given as goal
 

@@ -1,4 +1,4 @@
-use Rattle.std.proofs.Common.{rules, ap, subst, is_lt, IsPermutation}
+use Rattle.std.proofs.Common.{rules, ap, is_lt}
 use Rattle.std.proofs.lemmas.List.Sorted.{answers_always, ranks_by}
 use Rattle.source_checkpoint.specs.declared.delta.Part.{Part}
 use Rattle.meta_store.specs.Uneven.{range_order}
