@@ -1,15 +1,15 @@
 -- Numbers as a person reads them.
 use Rattle.std.specs.Prelude.{ℕ, ◌/◌, ◌%◌, ◌==◌, List, ◌++◌, Option, Some, None, decimal, codes, nat_lt, if◌then◌else◌, zero, suc}
 
--- the last three digits of a number
-abbrev pub three_digits : ℕ → List ℕ
-three_digits number = decimal (number / 100 % 10) ++ (decimal (number / 10 % 10) ++ decimal (number % 10))
+-- a comma and the last three digits of a number
+abbrev pub group_text : ℕ → List ℕ
+group_text number = codes "," ++ (decimal (number / 100 % 10) ++ (decimal (number / 10 % 10) ++ decimal (number % 10)))
 
 -- a number with so many commas, or as many as it has
 abbrev pub grouped_within : ℕ → ℕ → List ℕ
 grouped_within zero number = decimal number
 grouped_within (suc commas) number = if nat_lt number 1000 then decimal number
-    else grouped_within commas (number / 1000) ++ (codes "," ++ three_digits number)
+    else grouped_within commas (number / 1000) ++ group_text number
 
 -- a number with a comma before each three digits at its end; one of 64 bits has at most six
 abbrev pub grouped : ℕ → List ℕ

@@ -7,6 +7,7 @@ mod crossing;
 mod line;
 mod log;
 mod progress;
+mod sink;
 mod store;
 #[cfg(test)]
 mod tests;
@@ -16,4 +17,5 @@ pub use crossing::{clock_sent, log_sent, store_sent};
 pub use line::ProgressLine;
 pub use log::{CountedLog, count_logs};
 pub use progress::{Kind, Progress};
+pub use sink::EndingSink;
 pub use store::CountedStore;

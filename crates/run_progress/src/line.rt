@@ -1,8 +1,8 @@
 //! The text of progress.
 
 ghost use Rattle.std.specs.Prelude.{Some};
-ghost use Rattle.std.specs.Fmt.{DisplaysOnOk};
-ghost use Rattle.run_progress.specs.Numbers.{count_text, grouped, grouped_within, taken_text, three_digits};
+ghost use Rattle.std.specs.Fmt.{WritesOnOk};
+ghost use Rattle.run_progress.specs.Numbers.{count_text, group_text, grouped, grouped_within, taken_text};
 
 use std::fmt;
 
@@ -53,26 +53,18 @@ impl fmt::Display for Taken {
     ghost output = { λ taken. Some (taken_text taken.records taken.total) };
 
     fn fmt<W: fmt::Write>(&self, f: &mut fmt::Formatter<W>) -> fmt::Result {
+        let records = Count {
+            count: self.total.unwrap_or(self.records),
+            one: "record",
+            many: "records",
+        };
         match self.total {
-            None => {
-                let records = records_of(self.records);
-                write!(f, "{records}")
-            }
-            Some(total) => {
+            None => write!(f, "{records}"),
+            Some(_) => {
                 let taken = Grouped(self.records);
-                let records = records_of(total);
                 write!(f, "{taken} of {records}")
             }
         }
-    }
-}
-
-// So many records.
-fn records_of(count: u64) -> Count<'static> {
-    Count {
-        count,
-        one: "record",
-        many: "records",
     }
 }
 
@@ -111,22 +103,21 @@ impl fmt::Display for Grouped {
 
 // A number with so many commas, or as many as it has.
 fn write_grouped<W: fmt::Write>(f: &mut fmt::Formatter<W>, number: u64, commas: u8) -> fmt::Result
-    ensures { DisplaysOnOk W.write_str_gives f.old result (Some (grouped_within commas number)) f.new }
+    ensures { WritesOnOk W.write_str_gives f.old result (grouped_within commas number) f.new }
 {
     if commas == 0 || number < 1_000 {
         return write!(f, "{number}");
     }
     write_grouped(f, number / 1_000, commas - 1)?;
-    f.write_str(",")?;
-    write_three(f, number % 1_000)
+    write_group(f, number)
 }
 
-// The last three digits of a number.
-fn write_three<W: fmt::Write>(f: &mut fmt::Formatter<W>, number: u64) -> fmt::Result
-    ensures { DisplaysOnOk W.write_str_gives f.old result (Some (three_digits number)) f.new }
+// A comma and the last three digits of a number.
+fn write_group<W: fmt::Write>(f: &mut fmt::Formatter<W>, number: u64) -> fmt::Result
+    ensures { WritesOnOk W.write_str_gives f.old result (group_text number) f.new }
 {
     let hundreds = number / 100 % 10;
     let tens = number / 10 % 10;
     let ones = number % 10;
-    write!(f, "{hundreds}{tens}{ones}")
+    write!(f, ",{hundreds}{tens}{ones}")
 }

@@ -57,9 +57,11 @@ impl<'a, L: SourceLog, R: Eprint + Clock> SourceLog for CountedLog<'a, L, R> {
         from: u64,
         max: u32,
     ) -> Result<Records, ReadError> {
-        let records = self.log.read(alloc, partition, from, max)?;
-        self.progress.add_records(records.list.len() as u64);
-        Ok(records)
+        let records = self.log.read(alloc, partition, from, max);
+        if let Ok(records) = &records {
+            self.progress.add_records(records.list.len() as u64);
+        }
+        records
     }
 
     fn faults(&self) -> u64 {

@@ -1,10 +1,11 @@
 //! What was done so far, and when it is shown.
 
-ghost use Rattle.std.specs.Prelude.{◌≡◌, IsTrue};
+ghost use Rattle.std.specs.Prelude.{◌≡◌, IsTrue, false};
 
 use crate::ProgressLine;
 use byte_fields::Client;
 use root_search::LeafHold;
+use std::io::{IsTerminal, Write};
 use std::sync::atomic::{AtomicU64, Ordering};
 use std::time::{Clock, Duration};
 
@@ -33,6 +34,13 @@ impl Kind {
         }
     }
 
+    /// As standard error is. It is to be asked before the program opens a file: the first one takes the place of a standard error that is
+    /// closed, and lines would go into it.
+    pub fn at<E: Write + IsTerminal>(error: &mut E, is_asked: bool) -> Kind {
+        let is_open = error.write(&[]).is_ok();
+        Kind::of(error.is_terminal(), is_asked && is_open)
+    }
+
     /// So many seconds are between two lines, where there are any.
     fn seconds_between(self) -> Option<u64> {
         match self {
@@ -42,6 +50,9 @@ impl Kind {
         }
     }
 }
+
+/// Stands for the seconds that were shown last where nothing will be shown any more: no second is behind it.
+const FINISHED: u64 = u64::MAX;
 
 /// What a run has done so far, counted by all of its threads. Whichever of them counts first behind the time shows it, and goes on
 /// whether or not standard error took it. Contracts know nothing of the counts.
@@ -54,7 +65,7 @@ pub struct Progress<'a, R: Eprint + Clock> {
     records: AtomicU64,
     splits: AtomicU64,
     replies: AtomicU64,
-    /// The seconds that were shown last.
+    /// The seconds that were shown last, or `FINISHED`.
     shown: AtomicU64,
 }
 
@@ -101,14 +112,19 @@ impl<'a, R: Eprint + Clock> Progress<'a, R> {
         if seconds.saturating_sub(shown) < between {
             return;
         }
-        let taken = self.shown.compare_exchange(shown, seconds, Ordering::SeqCst, Ordering::SeqCst);
+        let taken = self
+            .shown
+            .compare_exchange(shown, seconds, Ordering::SeqCst, Ordering::SeqCst);
         if taken.is_ok() {
             self.show(seconds);
         }
     }
 
-    /// Shows what was done, and ends the line.
+    /// Shows what was done for the last time. Another call does nothing.
     pub fn finish(&self) {
+        if self.shown.swap(FINISHED, Ordering::SeqCst) == FINISHED {
+            return;
+        }
         self.show(self.seconds());
         if self.kind == Kind::Terminal {
             let _ = eprintln!(self.system; "");

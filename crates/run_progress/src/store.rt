@@ -48,11 +48,11 @@ impl<'a, S: ObjectStore, R: Eprint + Clock> ObjectStore for CountedStore<'a, S, 
     ghost given = { S.given };
 
     fn create(&mut self, alloc: Global, key: &Key, content: &[u8]) -> Result<(), CreateError> {
-        self.store.create(alloc, key, content)?;
-        if split_number(key).is_some() {
+        let created = self.store.create(alloc, key, content);
+        if created.is_ok() && split_number(key).is_some() {
             self.progress.add_split();
         }
-        Ok(())
+        created
     }
 
     fn get(&mut self, alloc: Global, key: &Key, from: u64, len: u64) -> Result<Piece, GetError> {

@@ -1,5 +1,5 @@
-use crate::{CountedLog, CountedStore, Kind, Progress, ProgressClock, ProgressLine, count_logs};
-use byte_fields::Client;
+use crate::{CountedStore, EndingSink, Kind, Progress, ProgressClock, ProgressLine, count_logs};
+use byte_fields::{Client, MemorySink, Sink};
 use clock_time::{Clock, ScriptClock};
 use meta_journal::{meta_key, split_key};
 use object_store::{ObjectStore, SteadyStore};
@@ -9,7 +9,7 @@ use source_log::{MemoryLog, SourceLog};
 use std::alloc::{AllocError, Global};
 use std::cell::{Cell, RefCell};
 use std::fmt::Display;
-use std::io::{self, ErrorKind};
+use std::io::{self, ErrorKind, IsTerminal, Write};
 use std::process::Abort;
 use std::test::*;
 use std::thread;
@@ -18,6 +18,7 @@ use std::time::{self, Duration};
 /// A system whose time is set, and whose standard error is kept, or fails.
 #[derive(Drop)]
 struct Desk {
+    alloc: Global,
     millis: Cell<u64>,
     works: bool,
     text: RefCell<String>,
@@ -26,14 +27,16 @@ struct Desk {
 impl Desk {
     fn new(alloc: Global, works: bool) -> Desk {
         Desk {
+            alloc,
             millis: Cell::new(900),
             works,
             text: RefCell::new(String::new(alloc)),
         }
     }
 
+    // Whether this is what was written since it was asked last.
     fn is_shown(&self, text: &str) -> bool {
-        match self.text.try_borrow() {
+        match self.text.try_replace(String::new(self.alloc)) {
             Ok(shown) => shown.as_str() == text,
             Err(_) => false,
         }
@@ -93,12 +96,32 @@ fn text_of(
 #[test]
 fn lines_read_as_text(rt: HostRuntime) -> Result<(), Fail> {
     for (records, total, rest, text) in [
-        (12_000, Some(100_000), [3, 40, 7], "12,000 of 100,000 records, 3 splits, 40 replies, 7 s"),
+        (
+            12_000,
+            Some(100_000),
+            [3, 40, 7],
+            "12,000 of 100,000 records, 3 splits, 40 replies, 7 s",
+        ),
         (0, None, [0, 0, 0], "0 records, 0 splits, 0 replies, 0 s"),
         (1, None, [1, 1, 1], "1 record, 1 split, 1 reply, 1 s"),
-        (0, Some(1), [2, 2, 999], "0 of 1 record, 2 splits, 2 replies, 999 s"),
-        (1, Some(2), [1_000, 1_001, 1_234_567], "1 of 2 records, 1,000 splits, 1,001 replies, 1,234,567 s"),
-        (u64::MAX, None, [999_999, 1_000_000, 10_020_030], "18,446,744,073,709,551,615 records, 999,999 splits, 1,000,000 replies, 10,020,030 s"),
+        (
+            0,
+            Some(1),
+            [2, 2, 999],
+            "0 of 1 record, 2 splits, 2 replies, 999 s",
+        ),
+        (
+            1,
+            Some(2),
+            [1_000, 1_001, 1_234_567],
+            "1 of 2 records, 1,000 splits, 1,001 replies, 1,234,567 s",
+        ),
+        (
+            u64::MAX,
+            None,
+            [999_999, 1_000_000, 10_020_030],
+            "18,446,744,073,709,551,615 records, 999,999 splits, 1,000,000 replies, 10,020,030 s",
+        ),
     ] {
         let told = text_of(rt.alloc(), records, total, rest)?;
         assert_eq!(rt; told.as_str(), text);
@@ -118,18 +141,26 @@ fn a_terminal_has_one_line(rt: HostRuntime) -> Result<(), Fail> {
     progress.add_records(1_000);
     assert!(rt; desk.is_shown("\r2,000 of 5,000 records, 1 split, 0 replies, 1 s\x1b[K"));
     progress.add_reply();
+    assert!(rt; desk.is_shown(""));
     desk.millis.set(4_000);
     progress.tick();
-    assert!(rt; desk.is_shown("\r2,000 of 5,000 records, 1 split, 0 replies, 1 s\x1b[K\r2,000 of 5,000 records, 1 split, 1 reply, 3 s\x1b[K"));
+    assert!(rt; desk.is_shown("\r2,000 of 5,000 records, 1 split, 1 reply, 3 s\x1b[K"));
     progress.finish();
-    assert!(rt; desk.is_shown("\r2,000 of 5,000 records, 1 split, 0 replies, 1 s\x1b[K\r2,000 of 5,000 records, 1 split, 1 reply, 3 s\x1b[K\r2,000 of 5,000 records, 1 split, 1 reply, 3 s\x1b[K\n"));
+    assert!(rt; desk.is_shown("\r2,000 of 5,000 records, 1 split, 1 reply, 3 s\x1b[K\n"));
+    desk.millis.set(5_000);
+    progress.tick();
+    progress.finish();
+    assert!(rt; desk.is_shown(""));
     Ok(())
 }
 
 #[test]
 fn lines_come_where_they_were_asked_for(rt: HostRuntime) -> Result<(), Fail> {
     for (asked, text) in [
-        (true, "0 records, 1 split, 0 replies, 10 s\n0 records, 1 split, 0 replies, 19 s\n"),
+        (
+            true,
+            "0 records, 1 split, 0 replies, 10 s\n0 records, 1 split, 0 replies, 19 s\n",
+        ),
         (false, ""),
     ] {
         let desk = Desk::new(rt.alloc(), true);
@@ -143,6 +174,65 @@ fn lines_come_where_they_were_asked_for(rt: HostRuntime) -> Result<(), Fail> {
         assert!(rt; desk.is_shown(text), "{asked}");
     }
     Ok(())
+}
+
+#[test]
+fn an_output_begins_behind_it(rt: HostRuntime) -> Result<(), Fail> {
+    let desk = Desk::new(rt.alloc(), true);
+    let progress = Progress::begin(&desk, Kind::Terminal, None);
+    let mut output = EndingSink::over(MemorySink::with_room(rt.alloc(), 4)?, &progress);
+    assert!(rt; desk.is_shown(""));
+    for piece in [b"ab", b"cd"] {
+        assert_eq!(rt; output.write(piece).ok().ok_or("write")?, 2);
+    }
+    assert!(rt; desk.is_shown("\r0 records, 0 splits, 0 replies, 0 s\x1b[K\n"));
+    assert!(rt; output.write(b"e").is_err());
+    assert_eq!(rt; output.faults(), 1);
+    assert_eq!(rt; output.sink().content(), b"abcd".as_slice());
+    Ok(())
+}
+
+/// A standard error that is open or not, and a terminal or not.
+#[derive(Drop)]
+struct Found {
+    is_terminal: bool,
+    is_open: bool,
+}
+
+impl Write for Found {
+    fn write(&mut self, _piece: &[u8]) -> io::Result<usize> {
+        if self.is_open {
+            Ok(0)
+        } else {
+            Err(io::Error::from(ErrorKind::Other))
+        }
+    }
+
+    fn flush(&mut self) -> io::Result<()> {
+        Ok(())
+    }
+}
+
+impl IsTerminal for Found {
+    fn is_terminal(&self) -> bool {
+        self.is_terminal
+    }
+}
+
+#[test]
+fn a_closed_one_is_told_nothing(rt: HostRuntime) {
+    for (is_terminal, is_open, asked, kind) in [
+        (true, true, false, Kind::Terminal),
+        (false, true, true, Kind::Lines),
+        (false, true, false, Kind::Quiet),
+        (false, false, true, Kind::Quiet),
+    ] {
+        let mut found = Found {
+            is_terminal,
+            is_open,
+        };
+        assert_eq!(rt; Kind::at(&mut found, asked), kind);
+    }
 }
 
 fn log_of(alloc: Global, partition: &Partition, records: u64) -> Result<MemoryLog, AllocError> {
@@ -159,7 +249,11 @@ fn line_behind_all(rt: &(impl Abort + AllocGlobal), works: bool) -> Result<Strin
     let desk = Desk::new(alloc, works);
     let progress = Progress::begin(&desk, Kind::Terminal, None);
     let partition = Partition::from_text("a")?;
-    let mut logs = count_logs(alloc, vec![in alloc; log_of(alloc, &partition, 7)?]?, &progress)?;
+    let mut logs = count_logs(
+        alloc,
+        vec![in alloc; log_of(alloc, &partition, 7)?]?,
+        &progress,
+    )?;
     for log in &mut logs {
         let names = log.partitions(alloc).ok().ok_or("names")?;
         assert_eq!(rt; names.len(), 1);
@@ -187,7 +281,11 @@ fn line_behind_all(rt: &(impl Abort + AllocGlobal), works: bool) -> Result<Strin
 fn wrappers_count_and_give_on(rt: HostRuntime) -> Result<(), Fail> {
     for works in [true, false] {
         let line = line_behind_all(&rt, works)?;
-        assert_eq!(rt; line.as_str(), "3 records, 1 split, 0 replies, 1 s", "{works}");
+        assert_eq!(rt;
+            line.as_str(),
+            "3 records, 1 split, 0 replies, 1 s",
+            "{works}"
+        );
     }
     Ok(())
 }
