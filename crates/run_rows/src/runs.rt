@@ -13,8 +13,10 @@ use source_checkpoint::Partition;
 use source_log::MemoryLog;
 use split_collector::CollectorEnd;
 use std::alloc::{AllocError, Global};
-use std::test::*;
 use std::mem;
+use std::sync::Wait;
+use std::test::*;
+use std::thread::Threads;
 use upkeep_run::WorkerEnd;
 
 const CONFIG: &str =
@@ -89,8 +91,7 @@ fn ends(alloc: Global, all: &[ActorEnd]) -> Result<Vec<u8>, AllocError> {
     Ok(letters)
 }
 
-fn run_one(rt: &HostRuntime, options: RunOptions) -> Result<RunEnd<MemoryStore, MemoryLog>, AllocError> {
-    let alloc = rt.alloc();
+fn run_one<R: Threads + Wait + Sync>(rt: &R, alloc: Global, options: RunOptions) -> Result<RunEnd<MemoryStore, MemoryLog>, AllocError> {
     let mut logs = Vec::new(alloc);
     for _ in 0..3 {
         logs.push(new_log(alloc, 20)?)?;
@@ -114,7 +115,7 @@ fn two_indexers_and_two_searchers_settle(rt: HostRuntime) -> Result<(), Fail> {
         turns: 1000,
         settle: true,
     };
-    let end = run_one(&rt, options)?;
+    let end = run_one(&rt, alloc, options)?;
     let RunEnd { world, logs, replies, ends: told, settled, memory } = end;
     let (store, clock) = world.unload();
     mem::drop(store);
@@ -122,9 +123,9 @@ fn two_indexers_and_two_searchers_settle(rt: HostRuntime) -> Result<(), Fail> {
     assert!(rt; !memory);
     assert_eq!(rt; logs.len(), 3);
     let said = letters(alloc, replies.as_slice())?;
-    assert!(rt; said.as_slice() == b"ufvdufwrvf");
+    assert!(rt; said.as_slice() == b"ufvdufwrvf".as_slice());
     let how = ends(alloc, told.as_slice())?;
-    assert!(rt; how.as_slice() == b"ccmdx");
+    assert!(rt; how.as_slice() == b"ccmdx".as_slice());
     assert!(rt; matches!(&settled, Some(Settled::Whole)));
     Ok(())
 }
@@ -138,7 +139,7 @@ fn one_of_each_unsettled(rt: HostRuntime) -> Result<(), Fail> {
         turns: 1000,
         settle: false,
     };
-    let end = run_one(&rt, options)?;
+    let end = run_one(&rt, alloc, options)?;
     let RunEnd { world, logs, replies, ends: told, settled, memory } = end;
     let (store, clock) = world.unload();
     mem::drop(store);
@@ -146,7 +147,7 @@ fn one_of_each_unsettled(rt: HostRuntime) -> Result<(), Fail> {
     assert!(rt; !memory);
     assert_eq!(rt; logs.len(), 3);
     let said = letters(alloc, replies.as_slice())?;
-    assert!(rt; said.as_slice() == b"ufvdufwrvf");
+    assert!(rt; said.as_slice() == b"ufvdufwrvf".as_slice());
     let how = ends(alloc, told.as_slice())?;
     assert!(rt; how.as_slice()[0] == b'c');
     assert_eq!(rt; how.len(), 4);
