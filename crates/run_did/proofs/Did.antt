@@ -48,7 +48,7 @@ use Rattle.run_laws.proofs.Replies.{goes_before}
 use Rattle.run_all.proofs.Jobs.{all_append, all_mapped, jobs_tell}
 use Rattle.run_settle.specs.Settling.{Settles, SettlesBy}
 use Rattle.run_settle.specs.declared.settling.Settled.{Settled}
-use Rattle.run_did.specs.RunAll.{EndsAre, IsSettled, RunDid}
+use Rattle.run_did.specs.RunExit.{EndsAre, IsSettled, RunReached}
 use Rattle.run_did.specs.Settled.{HasSettled, TellsSettled, WasSettled}
 use Rattle.run_did.proofs.Ends.{AnsweredBy, InKinds, in_kinds}
 use Rattle.run_did.proofs.Replies.{requests_replied}
@@ -170,7 +170,7 @@ none_ran count options config world log core logs requests end none stands = rec
 module _ {S L : Type 0} (count : L → ℕ) (options : RunOptions) (config : IndexConfig) (log : Log) (core : Core) (logs : List L) (requests : List Request) (end : RunEnd S L)
     (ran : RanTo count options config log core logs requests end) where
   -- nothing was settled
-  pub unsettled_did : options.settle ≡ false → RunDid count options config log core logs requests end
+  pub unsettled_did : options.settle ≡ false → RunReached count options config log core logs requests end
   unsettled_did off =
       let here = stays_as_is Nobody ran.from in
       let sound = sound_of end.world ran.from log ran.stands in
@@ -185,7 +185,7 @@ module _ {S L : Type 0} (count : L → ℕ) (options : RunOptions) (config : Ind
       }
 
   -- there was no memory, and nothing was settled
-  short_did : end.memory ≡ true → RunDid count options config log core logs requests end
+  short_did : end.memory ≡ true → RunReached count options config log core logs requests end
   short_did short =
       let no : end.memory ≡ false → ⊥ = λ e. true_false (sym short ∙ e) in
       record { exit = ran.from; goes_on = ran.goes_on; stands = ran.stands; replies = λ e. absurd (no e); ends = λ e. absurd (no e); whole = λ e. absurd (no e); settled = λ e. absurd (no e) }
@@ -195,7 +195,7 @@ module _ {S L : Type 0} (count : L → ℕ) (options : RunOptions) (config : Ind
   told_as (Err short) told memory exit t e on says = absurd (true_false (sym t ∙ e))
 
   -- it was settled
-  was_settled_did : (last : RunEnd S L) → IsLog log → options.settle ≡ true → end.memory ≡ false → WasSettled end last → RunDid count options config log core logs requests last
+  was_settled_did : (last : RunEnd S L) → IsLog log → options.settle ≡ true → end.memory ≡ false → WasSettled end last → RunReached count options config log core logs requests last
   was_settled_did last is_log asked whole was =
       let s = was.settles ran.from log is_log ran.stands in
       let sound = sound_of last.world s.after log s.stands in
@@ -211,9 +211,9 @@ module _ {S L : Type 0} (count : L → ℕ) (options : RunOptions) (config : Ind
         settled = λ e. subst (λ (b : Bool). IsSettled b last.settled core s.after) (sym asked) (told_as was.result last.settled last.memory s.after was.told e s.goes_on s.ended);
       }
 
-  by_memory : (last : RunEnd S L) (b : Bool) → IsLog log → options.settle ≡ true → HasSettled end last → end.memory ≡ b → RunDid count options config log core logs requests last
-  by_memory last true is_log asked has e = subst (λ (one : RunEnd S L). RunDid count options config log core logs requests one) (sym (has.short e)) (short_did e)
+  by_memory : (last : RunEnd S L) (b : Bool) → IsLog log → options.settle ≡ true → HasSettled end last → end.memory ≡ b → RunReached count options config log core logs requests last
+  by_memory last true is_log asked has e = subst (λ (one : RunEnd S L). RunReached count options config log core logs requests one) (sym (has.short e)) (short_did e)
   by_memory last false is_log asked has e = was_settled_did last is_log asked e (has.settled e)
 
-  pub settled_did : (last : RunEnd S L) → IsLog log → options.settle ≡ true → HasSettled end last → RunDid count options config log core logs requests last
+  pub settled_did : (last : RunEnd S L) → IsLog log → options.settle ≡ true → HasSettled end last → RunReached count options config log core logs requests last
   settled_did last is_log asked has = by_memory last end.memory is_log asked has refl

@@ -33,7 +33,7 @@ use Rattle.run_all.specs.declared.outcome.Served.{Served}
 use Rattle.run_settle.specs.declared.end_lines.ActorEnd.{ActorEnd}
 use Rattle.run_settle.specs.declared.end_lines.ActorEnd.TheVariants as ends
 use Rattle.run_all.proofs.Loops.{gathered_append}
-use Rattle.run_did.specs.RunAll.{CollectorEnds, EndsAre, KeepersEnd, WorkerEnds}
+use Rattle.run_did.specs.RunExit.{CollectorEnds, EndsAre, KeepersEnd, WorkerEnds}
 use Rattle.run_did.proofs.Says.{Says}
 
 -- ---- lists side by side

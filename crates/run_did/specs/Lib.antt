@@ -1,2 +1,4 @@
+pub mod RunExit
 pub mod RunAll
+pub mod RunDid
 pub mod Settled

@@ -1,13 +1,11 @@
 //! A run, and what it did in the words of the index.
 
-ghost use Rattle.std.specs.Prelude.{◌≡◌, ◌≤◌, Some, length, take};
+ghost use Rattle.std.specs.Prelude.{◌≡◌, ◌≤◌, Some, length, map};
 ghost use Rattle.std.specs.List.{AllByRecursion, AllZip};
-ghost use Rattle.index_config.specs.declared.config.IndexConfig.{IndexConfig as Configured};
 ghost use Rattle.source_log.specs.Log.{IsLog, Log};
-ghost use Rattle.index_world.specs.Core.{Core, IsConfigured};
+ghost use Rattle.index_world.specs.Core.{Core};
 ghost use Rattle.index_world.specs.World.{WorldStands};
-ghost use Rattle.root_search.specs.Replied.{AsksTexts};
-ghost use Rattle.run_did.specs.RunAll.{RunDid};
+ghost use Rattle.run_did.specs.RunDid.{RunDid};
 ghost use Rattle.run_did.specs.Settled.{HasSettled, TellsSettled};
 
 use clock_time::{Clock, ScriptClock};
@@ -83,8 +81,8 @@ pub fn run<
     requires indexers { (1 ≤ options.indexers) × (options.indexers ≤ 64) × (options.indexers ≤ length logs.items) }
     requires searchers { (1 ≤ options.searchers) × (options.searchers ≤ 64) }
     ensures logs { AllZip L.since logs.items result.logs.items }
-    ensures ran { (config : Configured) (core : Core) (log : Log) → IsLog log → WorldStands world core log → IsConfigured config core → AsksTexts config →
-        AllByRecursion (λ own. L.told own ≡ Some log) (take options.indexers logs.items) → RunDid L.fault_count options config log core logs.items requests.items result }
+    ensures ran { (core : Core) (log : Log) → IsLog log → WorldStands world core log → AllByRecursion (λ own. L.told own ≡ Some log) logs.items →
+        RunDid options log (map L.fault_count logs.items) core requests.items (map L.fault_count result.logs.items) result }
 {
     let end = run_unsettled(rt, alloc, world, clock, logs, requests, options, hold);
     // The count of a store has its range.

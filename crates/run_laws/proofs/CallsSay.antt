@@ -1,7 +1,7 @@
 -- What fails a call of a world, and what the journal says of it then.
-use Rattle.std.proofs.Common.{◌≡◌, ◌⊎◌, inl, inr, ℕ, ◌+◌, ◌≤◌, ◌<◌, ◌==◌, Bool, true, false, cond, List, [], ◌∷◌, length, take, refl, sym, ap, ◌∙◌, subst, arith}
+use Rattle.std.proofs.Common.{◌≡◌, ℕ, ◌+◌, ◌≤◌, ◌<◌, Bool, true, false, cond, List, [], length, refl, sym, ap, ◌∙◌, arith}
 use Rattle.std.proofs.lemmas.Bool.{eq-eqb, le-ltb, leb-true, ltb-false}
-use Rattle.std.specs.Prelude.{Option, Some, None, Result, Ok, Err, IsOk, ⊤, is_some, nat_le, nat_lt}
+use Rattle.std.specs.Prelude.{Option, Some, Result, Ok, Err, IsOk, ⊤, is_some, nat_le, nat_lt}
 use Rattle.meta_journal.specs.Places.{split_key}
 use Rattle.meta_journal.specs.declared.entry.Act.{Act}
 use Rattle.meta_journal.specs.declared.entry.Act.TheVariants.{Stage}

@@ -1,8 +1,8 @@
 -- Where no count of faults rose, nothing says that the store or a log failed.
-use Rattle.std.proofs.Common.{◌≡◌, ◌⊎◌, inl, inr, ℕ, ◌≤◌, ◌<◌, Bool, List, [], ◌∷◌, length, take, refl, sym, ap, ◌∙◌, subst, arith}
+use Rattle.std.proofs.Common.{ℕ, ◌≤◌, List, [], ◌∷◌, length, take, sym, subst, arith}
 use Rattle.std.specs.List.{AllByRecursion, AllZip}
-use Rattle.std.specs.Prelude.{Result, Ok, Err, ⊤, ◌&&◌, nat_lt, map}
-use Rattle.byte_fields.specs.Causes.{Rose, last_count}
+use Rattle.std.specs.Prelude.{Result, Ok, Err}
+use Rattle.byte_fields.specs.Causes.{Rose}
 use Rattle.index_config.specs.declared.config.IndexConfig.{IndexConfig}
 use Rattle.meta_journal.specs.declared.entry.Entry.{Entry}
 use Rattle.source_log.specs.Log.{Log}
@@ -38,10 +38,10 @@ use Rattle.run_jobs.specs.declared.job.Job.{Job}
 use Rattle.run_jobs.specs.declared.job.Job.TheVariants as jobs
 use Rattle.run_plan.specs.declared.clients.Asking.{Asking}
 use Rattle.run_laws.specs.Calm.{AreCalm, IsCalmCollector, IsCalmDone, IsCalmError, IsCalmIndexer, IsCalmSaid, IsCalmWorker, LogsStoodStill, StoodStill}
-use Rattle.run_laws.specs.ClientReplies.{ClientReplies, IsReplyTo, RefusesDelete, RefusesSearch, RepliesAsked, RepliesDelete, RepliesSearch}
+use Rattle.run_laws.specs.ClientReplies.{ClientReplies, RefusesDelete, RefusesSearch, RepliesAsked, RepliesDelete, RepliesSearch}
 use Rattle.run_laws.specs.Ends.{CollectorEnded, FaultsCollector, FaultsIndexer, FaultsWorker, IndexerEnded, WorkerEnded}
 use Rattle.run_laws.specs.JobSays.{AnsweredSays, CollectedSays, DeletedSays, IndexedSays, JobSays, MergedSays}
-use Rattle.run_laws.specs.SearcherReplies.{ClientAnswered, SearcherAnswered}
+use Rattle.run_laws.specs.SearcherReplies.{ClientAnswered}
 
 never_rose : (first last before now : ℕ) → StoodStill first last → first ≤ before → Rose before now → now ≤ last → ⊥
 never_rose first last before now still low rose high =

@@ -1,12 +1,10 @@
 -- What the end of a collector says of the journal at the exit.
-use Rattle.std.proofs.Common.{◌≡◌, ◌⊎◌, inl, inr, ℕ, zero, suc, ◌+◌, ◌≤◌, ◌<◌, ◌==◌, Bool, true, false, List, [], ◌∷◌, ◌++◌, find, length, take, drop, refl, sym, ap, ◌∙◌, subst, arith}
+use Rattle.std.proofs.Common.{◌≡◌, ◌⊎◌, inl, inr, ℕ, ◌+◌, ◌<◌, ◌≤◌, Bool, true, false, List, [], ◌∷◌, ◌++◌, find, length, take, drop, refl, sym, ap, ◌∙◌, subst, arith}
 use Rattle.std.proofs.lemmas.List.{length-append, take-append-drop, take-take}
 use Rattle.std.specs.List.{AllByRecursion}
 use Rattle.std.specs.Prelude.{IsSome, MatchOption, Option, Some, None, Result, Ok, Err, ⊤}
-use Rattle.byte_fields.specs.Causes.{Rose, last_count}
+use Rattle.byte_fields.specs.Causes.{last_count}
 use Rattle.index_config.specs.declared.config.IndexConfig.{IndexConfig}
-use Rattle.meta_journal.specs.declared.entry.Act.{Act}
-use Rattle.meta_journal.specs.declared.entry.Act.TheVariants.{MarkStaged, Remove}
 use Rattle.meta_journal.specs.declared.entry.Entry.{Entry}
 use Rattle.meta_store.specs.History.{history, last_number, moment_of}
 use Rattle.meta_store.specs.Rows.{rows}
@@ -15,15 +13,14 @@ use Rattle.meta_store.specs.declared.refusal.Refusal.{Refusal}
 use Rattle.source_log.specs.Log.{Log}
 use Rattle.split_states.specs.Due.{stale_rows}
 use Rattle.split_states.specs.declared.rows.Row.{Row}
-use Rattle.index_world.specs.Calls.{Call, Fate, Fault, store_fault, is_foreign, is_full, is_expired, Gives, Trouble, faulted, no_memory, Unmade, refused, troubled, answer_behind, as_unmade, asked_clock, asking, entry_of, file_deleted, troubled_by}
+use Rattle.index_world.specs.Calls.{Fate, Fault, is_foreign, is_full, is_expired, Trouble, faulted, no_memory, Unmade, refused, troubled, answer_behind, asked_clock, asking, entry_of, troubled_by}
 use Rattle.index_world.specs.CallsMade.{Ask, CallMade, IsRecorded, made_of}
-use Rattle.index_world.specs.Collecting.{Offer, config_taken, doom_call, doom_next, doomed_by, doomed_rows, is_left, list_call, mark_stale_call, marks_offer, may_go, may_go_by, next_doomed, removal_of, removal_offer, remove_call, stale_offer}
+use Rattle.index_world.specs.Collecting.{config_taken, doom_call, doom_next, doomed_by, is_left, list_call, mark_stale_call, marks_offer, may_go_by, next_doomed, removal_of, remove_call}
 use Rattle.index_world.specs.Config.{reads}
 use Rattle.index_world.specs.Configuration.{config_or, configuration}
 use Rattle.index_world.specs.Core.{Core, Nobody}
 use Rattle.index_world.specs.DirectLaws.{stays_as_is}
 use Rattle.index_world.specs.Gate.{IsTrouble, IsUnmade}
-use Rattle.index_world.specs.Index.{max_entries}
 use Rattle.index_world.specs.Ran.{AreSteps, IsCause, IsCaused, StepMade, calls_of}
 use Rattle.index_world.specs.World.{GoesFor}
 use Rattle.index_world.specs.declared.world_error.WorldError.{WorldError}
@@ -32,23 +29,24 @@ use Rattle.split_collector.specs.CollectAll.{CollectorDid, CollectorStep, end_of
 use Rattle.split_collector.specs.Ending.{Told}
 use Rattle.split_collector.specs.Idle.{HadNothing}
 use Rattle.split_collector.specs.Idle as idle
-use Rattle.split_collector.specs.Outcomes.{Outcome, MarkedStale, Doomed, Removed, Swept, Nothing, Refused, Faulted}
-use Rattle.split_collector.specs.Standing.{Answers, IsSaid}
+use Rattle.split_collector.specs.Outcomes.{Outcome, Nothing, Refused}
+use Rattle.split_collector.specs.Standing.{Answers}
 use Rattle.split_collector.specs.Steps.{ArePassed, AreRecorded, Passage, Stand, ask_at, failed_with, least_left, outcomes, page_by, ran, stand, turned}
-use Rattle.split_collector.specs.Turns.{Turn, behind_doom, behind_list, behind_mark, behind_remove, ended, next_behind, page_turn, to_doom, to_list, to_mark, to_remove, to_sweep}
+use Rattle.split_collector.specs.Turns.{Turn, behind_doom, behind_list, behind_mark, behind_remove, ended, next_behind, page_turn, to_doom, to_list, to_mark, to_remove}
 use Rattle.split_collector.specs.declared.collecting.CollectorEnd.{CollectorEnd}
 use Rattle.split_collector.specs.declared.collecting.CollectorEnd.TheVariants as ends
 use Rattle.split_collector.specs.declared.outcome.CollectorOutcome.TheVariants as said
 use Rattle.split_collector.proofs.Idling.{nothing_done}
 use Rattle.split_collector.proofs.Least.{none_found}
 use Rattle.node_run.proofs.CallTells.{IsLowCore}
-use Rattle.root_search.proofs.NextReplies.{begins_same}
+use Rattle.root_search.proofs.NextReplies.{begins_on, begins_same}
 use Rattle.root_search.proofs.Stretches.{under}
-use Rattle.run_laws.specs.Ends.{Collected, CollectorEnded, FaultsCollector, GaveNone, IsMet, IsSeen, Listing, NoneDoomed, NoneReleased, NoneStale}
+use Rattle.run_laws.specs.Ends.{Collected, CollectorEnded, FaultsCollector, GaveNone, IsMet, Listing, NoneDoomed, NoneReleased, NoneStale}
 use Rattle.run_laws.specs.Meanwhile.{IsBefore, IsCalled}
-use Rattle.run_laws.proofs.CollectorSteps.{IsCall, Mets, Says, TurnSays, all_met, marks_call, ran_says, removes_call}
-use Rattle.run_laws.proofs.LastSteps.{AllGoing, LastStep, all_going, ends_last, works_go}
-use Rattle.run_laws.proofs.Lists.{all_back, all_front}
+use Rattle.run_laws.proofs.CollectorSteps.{Mets, Says, TurnSays, all_met, marks_call, ran_says, removes_call}
+use Rattle.run_laws.proofs.CollectorWorks.{steps_did}
+use Rattle.run_laws.proofs.LastSteps.{LastStep, all_going, ends_last, works_go}
+use Rattle.run_laws.proofs.Lists.{all_back}
 use Rattle.run_laws.proofs.OfferSteps.{FullAt}
 use Rattle.run_laws.proofs.Replies.{cause_wider}
 
@@ -154,8 +152,8 @@ or_met never (inl x) = absurd (never x)
 or_met never (inr m) = m
 
 -- From the first core to the last, behind which the journal went on up to the exit.
-module _ (config : IndexConfig) (log : Log) (Between : Core → Core → Type 0) (keeps_low : (core mid : Core) → Between core mid → IsLowCore core → IsLowCore mid)
-    (first last exit : Core) (low_first : IsLowCore first) (configured : configuration first.history ≡ Some config) (legal_exit : Legal reads (history exit.history)) (begins : (more : List Entry) × (exit.history ≡ first.history ++ more))
+module _ (config : IndexConfig) (log : Log) (Between : Core → Core → Type 0) (goes : (core mid : Core) → Between core mid → GoesFor Nobody core mid) (keeps_low : (core mid : Core) → Between core mid → IsLowCore core → IsLowCore mid)
+    (first last exit : Core) (low_first : IsLowCore first) (some : 0 < length first.history) (configured : configuration first.history ≡ Some config) (legal_exit : Legal reads (history exit.history)) (begins : (more : List Entry) × (exit.history ≡ first.history ++ more))
     (on : IsBefore last exit) (counted : last.store_faults ≤ last_count) where
   abbrev IsMetCore : Core → Type 0
   IsMetCore core = (ask : Ask) × IsCalled first exit (made_of ask core)
@@ -207,9 +205,9 @@ module _ (config : IndexConfig) (log : Log) (Between : Core → Core → Type 0)
       let given = list_call passage.luck.fate passage.core in
       let next = next_behind behind passage.luck.end in
       let P : Result ⊤ Trouble → Type 0 = λ r.
-          let u = troubled_by r given.core in
-          let turn = behind_list outcomes (page_by behind next u.core u.answer) in
-          ((turn ≡ ended None) ⊎ IsMetCore u.core) × Met turn more in
+      let u = troubled_by r given.core in
+      let turn = behind_list outcomes (page_by behind next u.core u.answer) in
+      ((turn ≡ ended None) ⊎ IsMetCore u.core) × Met turn more in
       let at_ok = subst P none.0 (met.1, met.2) in
       let Q : Option ℕ → Type 0 = λ o. let turn = page_turn outcomes o next in ((turn ≡ ended None) ⊎ IsMetCore given.core) × Met turn more in
       let at_none = subst Q (none_least given.core behind next none.1) at_ok in
@@ -239,8 +237,8 @@ module _ (config : IndexConfig) (log : Log) (Between : Core → Core → Type 0)
     behind_dooms : IsMetCore doomed × Met to_remove (h.removes ∷ h.pages)
     behind_dooms =
         let P : Result (Option ℕ) Trouble → Type 0 = λ r.
-            let u = troubled_by r doomed in
-            ((behind_doom outcomes u.answer ≡ ended None) ⊎ IsMetCore u.core) × Met (behind_doom outcomes u.answer) (h.removes ∷ h.pages) in
+        let u = troubled_by r doomed in
+        ((behind_doom outcomes u.answer ≡ ended None) ⊎ IsMetCore u.core) × Met (behind_doom outcomes u.answer) (h.removes ∷ h.pages) in
         let there = subst P h.none_doomed (behind_marks.1.1, behind_marks.1.2) in
         (or_met remove_no_end there.0, there.1)
 
@@ -377,21 +375,25 @@ module _ (config : IndexConfig) (log : Log) (Between : Core → Core → Type 0)
     by_unmade error (troubled (faulted fault)) said_is core met of failed says cause = by_fault error fault core met of (subst (λ (o : Option Outcome). Says core o) (sym failed) says) cause
     by_unmade error (troubled no_memory) said_is core met of failed says cause = absurd (none_some said_is failed)
 
+    -- a step that came to a fault
+    step_fails : (error : WorldError) (mid after : Core) (passages : List Passage) (outcome : Option Outcome) → IsFault error outcome → ArePassed Between to_mark mid passages → Met to_mark passages → ran to_mark mid passages ≡ stand (ended outcome) after →
+        Says after outcome → ((before now : ℕ) → error ≡ errors.StoreFault before now → IsCause before now first exit) → Faults error
+    step_fails error mid after passages outcome fault passed at did says cause =
+        let met = last_met to_mark mid passages fault.said_is after mark_asks passed at (subst (λ (o : Option Outcome). ran to_mark mid passages ≡ stand (ended o) after) fault.is did) in
+        by_unmade error fault.unmade fault.said_is after met fault.of fault.failed (subst (λ (o : Option Outcome). Says after o) fault.is says) cause
+      where
+        mark_asks : IsSome (ask_at to_mark)
+        mark_asks = refl
+
     fault_ended : (error : WorldError) → Did (ends.Fault error) → Ended (ends.Fault error)
     fault_ended error d =
         let other : ends.Fault error ≡ ends.Turns → ⊥ = λ e. cc in
         let last_one = end_step (ends.Fault error) d other in
         let s = last_one.did in
         let told = fault_told last_one.step.result error last_one.ends in
-        let fault = fault_is error s.outcome (subst (λ (t : Told). Answers t s.outcome) told s.answer) in
-        let after = d.works.last in
-        let stands : ran to_mark last_one.mid s.passages ≡ stand (ended (Some fault.said_is)) after = s.did ∙ ap (λ (o : Option Outcome). stand (ended o) after) fault.is in
-        let met = last_met to_mark last_one.mid s.passages fault.said_is after mark_asks s.passed (end_met (ends.Fault error) d other) stands in
-        by_unmade error fault.unmade fault.said_is after met fault.of fault.failed (subst (λ (o : Option Outcome). Says after o) fault.is (end_says (ends.Fault error) d other)) (λ before now is. cause before now is)
+        step_fails error last_one.mid d.works.last s.passages s.outcome (fault_is error s.outcome (subst (λ (t : Told). Answers t s.outcome) told s.answer)) s.passed (end_met (ends.Fault error) d other) s.did (end_says (ends.Fault error) d other)
+        (λ before now is. cause before now is)
       where
-        mark_asks : IsSome (ask_at to_mark)
-        mark_asks = refl
-
         within : first.store_faults ≤ last_count
         within =
             let up = (works_go (CollectorStep Between) (λ (c : Core). c) end_of (λ (c : Core). ⊤) (λ a x b s. s.goes_on) ends.Turns turns (ends.Fault error) first made last d.works).faults in
@@ -441,7 +443,8 @@ module _ (config : IndexConfig) (log : Log) (Between : Core → Core → Type 0)
         let long = as_many first d.works.last d.works.steps d.works.are all.going in
         let many = all.many in
         let calls : length made ≡ length (calls_of d.works.steps) = ap (λ (l : List CallMade). length l) d.works.calls in
-        omega (arith, long, many, calls)
+        let did = steps_did Between goes exit.history legal_exit first d.works.last d.works.steps d.works.are all.going some (begins_on d.works.last.history last.history exit.history d.works.goes_on.grown on.grown) in
+        (omega (arith, long, many, calls), (did.0, did.1 ∙ all.many, did.2))
 
     -- ---- A COLLECTOR'S END
 

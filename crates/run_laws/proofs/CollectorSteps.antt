@@ -1,6 +1,5 @@
 -- What the calls of a collector's step say: why one of them fails, and that each was recorded.
-use Rattle.std.proofs.Common.{◌≡◌, ◌⊎◌, inl, inr, ℕ, ◌≤◌, ◌==◌, Bool, true, false, List, [], ◌∷◌, ◌++◌, length, refl, sym, ap, ◌∙◌, subst, arith}
-use Rattle.std.proofs.lemmas.List.{length-append}
+use Rattle.std.proofs.Common.{◌≡◌, ◌⊎◌, inl, inr, ℕ, ◌==◌, Bool, true, false, List, [], ◌∷◌, length, sym, ap, ◌∙◌, subst, arith}
 use Rattle.std.specs.List.{AllByRecursion}
 use Rattle.std.specs.Prelude.{IsSome, Option, Some, None, Result, Ok, Err, ⊤, if◌then◌else◌}
 use Rattle.meta_journal.specs.Places.{split_key}
@@ -11,14 +10,13 @@ use Rattle.meta_store.specs.Rows.{rows}
 use Rattle.meta_store.specs.declared.refusal.Refusal.{Refusal}
 use Rattle.split_states.specs.Due.{stale_rows}
 use Rattle.split_states.specs.declared.rows.Row.{Row}
-use Rattle.index_world.specs.Calls.{Call, Fate, Fault, store_fault, is_foreign, is_full, is_expired, Gives, Trouble, faulted, no_memory, Unmade, refused, troubled, answer_behind, as_unmade, asked_clock, asking, begun, deleted_by, entry_of, file_deleted, file_got, got_file, is_at_once, may_fail, or_short, troubled_by}
+use Rattle.index_world.specs.Calls.{Call, Fate, Gives, Trouble, faulted, no_memory, Unmade, refused, troubled, answer_behind, asked_clock, asking, begun, deleted_by, entry_of, file_deleted, is_at_once, may_fail, troubled_by}
 use Rattle.index_world.specs.CallsMade.{Ask, CallMade, IsRecorded, made_of}
 use Rattle.index_world.specs.Collecting.{Offer, answered_by, config_taken, doom_call, doom_next, doomed_by, doomed_rows, is_swept, list_call, mark_stale_call, marks_offer, next_doomed, removal_of, removal_offer, remove_call, stale_offer, sweep_call, sweep_if, swept_unless}
 use Rattle.index_world.specs.Core.{Core}
-use Rattle.index_world.specs.Index.{max_entries}
 use Rattle.split_collector.specs.Outcomes.{Outcome, MarkedStale, Doomed, Removed, Swept, Nothing, Refused, Faulted}
 use Rattle.split_collector.specs.Steps.{ArePassed, AreRecorded, CallLuck, Passage, Stand, ask_at, called, failed_with, least_left, outcomes, page_by, ran, stand, turned}
-use Rattle.split_collector.specs.Turns.{Page, Turn, behind_delete, behind_doom, behind_list, behind_mark, behind_remove, counted, ended, next_behind, page_turn, paging, to_doom, to_list, to_mark, to_remove, to_sweep}
+use Rattle.split_collector.specs.Turns.{Turn, behind_delete, behind_doom, behind_list, behind_mark, behind_remove, ended, next_behind, page_turn, to_doom, to_list, to_mark, to_remove, to_sweep}
 use Rattle.node_run.proofs.CallTells.{IfErr, IsLowCore, IsStoreTrouble, got_file_own, or_short_own}
 use Rattle.run_laws.specs.Meanwhile.{IsCalled}
 use Rattle.run_laws.proofs.Lists.{all_back, all_front}
@@ -64,13 +62,13 @@ pub record IsCall (left : Stand) : Type 0 where
 
 -- ---- its own entries
 
-marked_own : (numbers : List ℕ) (offer : Offer ℕ) → marks_offer numbers ≡ Some offer → (offer.act ≡ MarkStaged numbers) × (offer.answer ≡ length numbers) × (0 ≡ length numbers → ⊥)
+pub marked_own : (numbers : List ℕ) (offer : Offer ℕ) → marks_offer numbers ≡ Some offer → (offer.act ≡ MarkStaged numbers) × (offer.answer ≡ length numbers) × (0 ≡ length numbers → ⊥)
 marked_own [] offer e = absurd cc
 marked_own (n ∷ numbers) offer e =
     let same : record { act = MarkStaged (n ∷ numbers); answer = length (n ∷ numbers) } ≡ offer = cc in
     (sym (ap (λ (o : Offer ℕ). o.act) same), sym (ap (λ (o : Offer ℕ). o.answer) same), λ none. omega (arith, none))
 
-removed_own : (numbers : List ℕ) (offer : Offer ℕ) → removal_of numbers ≡ Some offer → (offer.act ≡ Remove numbers) × (offer.answer ≡ length numbers) × (0 ≡ length numbers → ⊥)
+pub removed_own : (numbers : List ℕ) (offer : Offer ℕ) → removal_of numbers ≡ Some offer → (offer.act ≡ Remove numbers) × (offer.answer ≡ length numbers) × (0 ≡ length numbers → ⊥)
 removed_own [] offer e = absurd cc
 removed_own (n ∷ numbers) offer e =
     let same : record { act = Remove (n ∷ numbers); answer = length (n ∷ numbers) } ≡ offer = cc in

@@ -1,25 +1,23 @@
 -- What the end of an indexer says of the journal at the exit.
-use Rattle.std.proofs.Common.{◌≡◌, ◌⊎◌, inl, inr, ℕ, ◌-◌, ◌^◌, ◌≤◌, ◌<◌, Bool, true, false, List, [], ◌∷◌, ◌++◌, length, take, refl, sym, ap, ◌∙◌, subst, arith}
+use Rattle.std.proofs.Common.{◌≡◌, inl, inr, ℕ, ◌-◌, ◌^◌, ◌≤◌, ◌<◌, Bool, true, false, List, [], ◌∷◌, length, refl, sym, ap, subst, arith}
 use Rattle.std.proofs.lemmas.Bool.{ltb-false, ltb-true}
 use Rattle.std.specs.List.{AllByRecursion}
-use Rattle.std.specs.Prelude.{Option, Some, None, Result, Ok, Err, ⊤, nat_lt}
-use Rattle.byte_fields.specs.Causes.{Rose, last_count}
+use Rattle.std.specs.Prelude.{Option, Some, None, Ok, Err, nat_lt}
+use Rattle.byte_fields.specs.Causes.{last_count}
 use Rattle.index_config.specs.declared.config.IndexConfig.{IndexConfig}
 use Rattle.meta_journal.specs.declared.entry.Entry.{Entry}
 use Rattle.meta_store.specs.History.{history, moment_of}
 use Rattle.meta_store.specs.Rows.{rows}
-use Rattle.meta_store.specs.State.{Legal, checkpoints_of}
+use Rattle.meta_store.specs.State.{Legal}
 use Rattle.meta_store.specs.declared.refusal.Refusal.{Refusal}
 use Rattle.meta_store.specs.declared.refusal.Refusal.TheVariants.{TooManyRows}
-use Rattle.source_checkpoint.specs.Checkpoints.{checkpoint_at}
-use Rattle.source_log.specs.Log.{IsLog, Log, records_of}
-use Rattle.index_world.specs.Calls.{Fault, store_fault, is_foreign, is_full, is_expired, faulted, no_memory}
+use Rattle.source_log.specs.Log.{IsLog, Log}
+use Rattle.index_world.specs.Calls.{Fault, is_foreign, is_full, is_expired, faulted, no_memory}
 use Rattle.index_world.specs.CallsMade.{Ask, CallMade, IsRecorded, made_of}
 use Rattle.index_world.specs.Config.{reads}
 use Rattle.index_world.specs.Core.{Core, Nobody}
 use Rattle.index_world.specs.DirectLaws.{stays_as_is}
 use Rattle.index_world.specs.Gate.{IsSoundCore, IsTrouble}
-use Rattle.index_world.specs.Index.{max_entries}
 use Rattle.index_world.specs.Ran.{AreSteps, IsCause, IsCaused, StepMade, calls_of}
 use Rattle.index_world.specs.World.{GoesFor}
 use Rattle.index_world.specs.declared.world_error.WorldError.{WorldError}
@@ -44,12 +42,12 @@ use Rattle.node_run.proofs.CallTells.{IsLowCore}
 use Rattle.root_search.proofs.Stands.{legal_before}
 use Rattle.run_laws.specs.Meanwhile.{IsBefore, IsCalled}
 use Rattle.run_laws.specs.ClientReplies.{IsReached}
-use Rattle.run_laws.specs.Ends.{FaultsIndexer, IndexerEnded, IsCrowded}
+use Rattle.run_laws.specs.Ends.{FaultsIndexer, IndexerEnded}
 use Rattle.run_laws.proofs.CallsSay.{FaultAt, crowded_here}
 use Rattle.run_laws.proofs.IndexerSteps.{IsGood, IsStep, IsUnstaged, Says, step_is}
 use Rattle.run_laws.proofs.LastSteps.{LastStep, ends_last, works_go}
 use Rattle.run_laws.proofs.Lists.{all_back}
-use Rattle.run_laws.proofs.Replies.{cause_wider, same_front}
+use Rattle.run_laws.proofs.Replies.{cause_wider}
 
 -- ---- what an answer of the code is
 
@@ -219,18 +217,19 @@ module _ (config : IndexConfig) (log : Log) (is_log : IsLog log) (Between : Core
     by_error (errors.Expired planned_at now) fault core reached of at cause = subst (FaultAt core) (fault_same fault (is_expired planned_at now) of) at
     by_error error fault core reached of at cause = of
 
+    -- a step that came to a fault
+    step_fails : (error : WorldError) (place : IndexerPlace) (core : Core) (outcome : Option IndexerOutcome) → IsFault error outcome → ((fault : Fault) → outcome ≡ Some (Faulted fault) → IsReached exit.history (length first.history) (length core.history)) →
+        Says place core outcome → ((before now : ℕ) → error ≡ errors.StoreFault before now → IsCause before now first exit) → FaultsIndexer config log exit.history (length first.history) first exit error
+    step_fails error place core outcome fault reached says cause = by_error error fault.fault core (reached fault.fault fault.is) fault.of (subst (Says place core) fault.is says) cause
+
     fault_ended : (error : WorldError) → Did (ends.Fault error) → Ended (ends.Fault error)
     fault_ended error d =
         let end = ends.Fault error in
         let other : end ≡ ends.Turns → ⊥ = λ e. cc in
         let last_one = end_step end d other in
         let told = fault_told last_one.step.result error last_one.ends in
-        let fault = fault_is error last_one.did.outcome (subst (λ (t : Told). Answers t last_one.did.outcome) told last_one.did.answer) in
-        let place = last_one.mid.indexer.place in
-        let core = d.works.last.core in
-        let call = end_called end d other (Faulted fault.fault) fault.is (λ f. f) in
-        let at : FaultAt core fault.fault = subst (Says place core) fault.is (end_is end d other).says in
-        by_error error fault.fault core (call.begins, call.ends) fault.of at (λ before now is. cause before now is)
+        step_fails error last_one.mid.indexer.place d.works.last.core last_one.did.outcome (fault_is error last_one.did.outcome (subst (λ (t : Told). Answers t last_one.did.outcome) told last_one.did.answer))
+        (λ fault is. let call = end_called end d other (Faulted fault) is (λ f. f) in (call.begins, call.ends)) (end_is end d other).says (λ before now is. cause before now is)
       where
         within : first.store_faults ≤ last_count
         within = let up = (works_go (IndexerStep Between log) core_there end_of (Holds tells count log reader) (λ a x b s. s.goes_on) ends.Turns (2 ^ 64 - 1) (ends.Fault error) (indexer_at indexer first) made last d.works).faults in omega (arith, up, counted)

@@ -1,5 +1,5 @@
 -- What a step of an indexer says where it is refused or fails, and what it leaves.
-use Rattle.std.proofs.Common.{◌≡◌, ℕ, ◌<◌, ◌==◌, Bool, true, false, List, [], ◌∷◌, length, take, drop, refl, sym, subst}
+use Rattle.std.proofs.Common.{◌≡◌, ℕ, ◌==◌, Bool, true, false, List, [], ◌∷◌, length, take, drop, refl, sym, subst}
 use Rattle.std.specs.Prelude.{Option, Some, None, Result, Ok, Err, ⊤, if◌then◌else◌, nat_le}
 use Rattle.meta_journal.specs.Places.{split_key}
 use Rattle.meta_journal.specs.declared.entry.Act.TheVariants.{Publish}
@@ -11,7 +11,7 @@ use Rattle.source_checkpoint.specs.declared.delta.StaleDelta.{StaleDelta}
 use Rattle.source_checkpoint.specs.declared.delta.StaleDelta.TheVariants as deltas
 use Rattle.source_checkpoint.specs.declared.ledger.Checkpoint.{Checkpoint as Mark}
 use Rattle.source_log.specs.Log.{Log, records_of}
-use Rattle.index_world.specs.Calls.{Trouble, faulted, no_memory, Unmade, refused, troubled, answer_behind, appended, asked, entry_of, looked}
+use Rattle.index_world.specs.Calls.{Trouble, faulted, no_memory, Unmade, refused, troubled, answer_behind, asked, entry_of, looked}
 use Rattle.index_world.specs.Configuration.{config_or, configuration}
 use Rattle.index_world.specs.Core.{Core, journal_of}
 use Rattle.index_world.specs.Gate.{publish_call, stage_act, stage_call}
@@ -20,8 +20,8 @@ use Rattle.indexing_run.specs.Making.{AreApart}
 use Rattle.indexing_run.specs.Outcomes.{IndexerOutcome}
 use Rattle.indexing_run.specs.Outcomes as said
 use Rattle.indexing_run.specs.Places.{Batch, Indexer, IndexerHeld, IndexerPlace, idle, reading, staged, uploaded}
-use Rattle.indexing_run.specs.Steps.{IndexerLuck, Stepped, batch_facts, checkpoints_by, idle_by, idle_unless, log_called, log_may_fail, or_short, partitions_for, publish_by, publish_refused, read_by, read_given, read_limit, stage_by, step_batch, step_indexer, step_place, step_read, start_of, step_stage, stepped, take_checkpoints, taken_from, trouble_outcome, upload_by}
-use Rattle.node_run.proofs.CallTells.{IfErr, IsLowCore, IsStoreTrouble, asked_own, copied_own}
+use Rattle.indexing_run.specs.Steps.{IndexerLuck, Stepped, batch_facts, checkpoints_by, idle_by, idle_unless, log_called, log_may_fail, or_short, partitions_for, publish_by, publish_refused, read_by, read_given, read_limit, stage_by, step_indexer, step_place, step_read, start_of, step_stage, stepped, take_checkpoints, taken_from, trouble_outcome, upload_by}
+use Rattle.node_run.proofs.CallTells.{IsLowCore, asked_own, copied_own}
 use Rattle.run_laws.proofs.CallsSay.{FaultAt, Fails, TroubleAt, Unmakes, entry_fails, file_fails, store_fails}
 use Rattle.run_laws.proofs.Low.{appended_low, asked_low, copied_low, file_made_low}
 use Rattle.run_laws.proofs.Parts.{IsOpen, fresh_opens, read_opens}

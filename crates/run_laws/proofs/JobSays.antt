@@ -1,14 +1,11 @@
 -- What came of a job says this of the journal at the exit.
-use Rattle.std.proofs.Common.{◌≡◌, ℕ, ◌-◌, ◌^◌, ◌<◌, ◌≤◌, List, [], ◌∷◌, length, arith}
+use Rattle.std.proofs.Common.{◌≡◌, ℕ, ◌≤◌, List, [], ◌∷◌, length}
 use Rattle.std.specs.List.{AllByRecursion}
-use Rattle.std.specs.Prelude.{Option, Some, ⊤}
+use Rattle.std.specs.Prelude.{Option, Some}
 use Rattle.byte_fields.specs.Causes.{last_count}
 use Rattle.index_config.specs.declared.config.IndexConfig.{IndexConfig}
-use Rattle.meta_store.specs.History.{history}
-use Rattle.meta_store.specs.State.{Legal}
 use Rattle.source_log.specs.Log.{IsLog, Log}
 use Rattle.index_world.specs.CallsMade.{CallMade}
-use Rattle.index_world.specs.Config.{reads}
 use Rattle.index_world.specs.Configuration.{configuration}
 use Rattle.index_world.specs.Core.{Core, IsConfigured, Nobody}
 use Rattle.index_world.specs.DirectLaws.{stays_as_is}
@@ -16,7 +13,6 @@ use Rattle.index_world.specs.Gate.{IsSoundCore}
 use Rattle.index_world.specs.World.{GoesFor}
 use Rattle.indexing_run.proofs.Rising.{taken_legal}
 use Rattle.indexing_run.specs.Asking.{IsIdle}
-use Rattle.indexing_run.specs.Making.{IsAssigned}
 use Rattle.indexing_run.specs.declared.indexer.Indexer.{Indexer as Reader}
 use Rattle.node_run.proofs.CallTells.{IsLowCore}
 use Rattle.root_search.proofs.NextReplies.{begins_on}
@@ -74,7 +70,7 @@ module _ {L : Type 0} (tells : L → Option Log) (count : L → ℕ) (config : I
   merged_says : (result : Done L) → MergedDid {L = L} Passes log turns result first made last → MergedSays count config log exit.history (length first.history) first exit turns (length made) result
   merged_says (done.Indexed final end) d = d
   merged_says (done.Answered answered short) d = d
-  merged_says (done.Merged end) d = worker_ended config log Passes passes_low first last exit low sound.opened config_is (taken_legal last log at_last) on counted Merging turns d.0 made called end d.1
+  merged_says (done.Merged end) d = worker_ended config log Passes passes_go passes_low first last exit low sound.opened config_is (taken_legal last log at_last) on counted Merging turns d.0 made called end d.1
   merged_says (done.Deleted end) d = d
   merged_says (done.Collected end) d = d
 
@@ -82,7 +78,7 @@ module _ {L : Type 0} (tells : L → Option Log) (count : L → ℕ) (config : I
   deleted_says (done.Indexed final end) d = d
   deleted_says (done.Answered answered short) d = d
   deleted_says (done.Merged end) d = d
-  deleted_says (done.Deleted end) d = worker_ended config log Passes passes_low first last exit low sound.opened config_is (taken_legal last log at_last) on counted Deleting turns d.0 made called end d.1
+  deleted_says (done.Deleted end) d = worker_ended config log Passes passes_go passes_low first last exit low sound.opened config_is (taken_legal last log at_last) on counted Deleting turns d.0 made called end d.1
   deleted_says (done.Collected end) d = d
 
   collected_says : (result : Done L) → CollectedDid {L = L} Passes turns result first made last → CollectedSays count config log exit.history (length first.history) first exit turns (length made) result
@@ -91,7 +87,7 @@ module _ {L : Type 0} (tells : L → Option Log) (count : L → ℕ) (config : I
   collected_says (done.Merged end) d = d
   collected_says (done.Deleted end) d = d
   collected_says (done.Collected end) d =
-      collector_ended config log Passes passes_low first last exit low config_is (taken_legal exit log at_exit) (begins_on first.history last.history exit.history going.grown on.grown) on counted turns made called end d
+      collector_ended config log Passes passes_go passes_low first last exit low sound.opened config_is (taken_legal exit log at_exit) (begins_on first.history last.history exit.history going.grown on.grown) on counted turns made called end d
 
   -- WHAT CAME OF A JOB
   pub job_says : (job : Job L) (result : Done L) → Tells tells log job → IsCounted count job → JobDid tells count Passes log turns job result first made last →

@@ -1,10 +1,10 @@
 -- The last step of an actor's work is its end.
-use Rattle.std.proofs.Common.{◌≡◌, ◌⊎◌, inl, inr, ℕ, ◌≤◌, List, [], ◌∷◌, ◌++◌, length, refl, sym, ap, ◌∙◌, subst}
+use Rattle.std.proofs.Common.{◌≡◌, inl, inr, ℕ, List, ◌++◌, length, ap, ◌∙◌, subst}
 use Rattle.std.specs.List.{AllByRecursion}
 use Rattle.std.specs.Prelude.{Option, Some, None}
 use Rattle.index_world.specs.CallsMade.{CallMade}
 use Rattle.index_world.specs.Core.{Core, Nobody}
-use Rattle.index_world.specs.Ran.{AreSteps, EndsBy, IsLastEnd, StepMade, Works, calls_of}
+use Rattle.index_world.specs.Ran.{AreSteps, EndsBy, StepMade, Works, calls_of}
 use Rattle.index_world.specs.World.{GoesFor}
 use Rattle.index_world.proofs.Ran.{calls_more, goes_then, last_step, steps_go}
 

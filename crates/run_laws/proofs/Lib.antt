@@ -9,10 +9,15 @@ pub mod IndexerSteps
 pub mod IndexerEnds
 pub mod Rested
 pub mod WorkerSteps
+pub mod WorkerTurns
 pub mod WorkerEnds
 pub mod OfferSteps
+pub mod OfferWorks
 pub mod CollectorSteps
+pub mod CollectorWorks
 pub mod CollectorEnds
+pub mod Rising
 pub mod Served
 pub mod JobSays
 pub mod Calmed
+pub mod RunSays

@@ -1,6 +1,5 @@
 -- Whatever the calls of all do, each create of an entry that may still land is at most for the number behind the history.
-use Rattle.std.proofs.Common.{◌≡◌, ℕ, ◌≤◌, Bool, true, false, List, [], ◌∷◌, length, refl, sym, subst, arith}
-use Rattle.std.specs.List.{AllByRecursion}
+use Rattle.std.proofs.Common.{ℕ, Bool, true, false, List, [], ◌∷◌, length, sym, subst, arith}
 use Rattle.std.specs.Prelude.{Option, Some, None, Result, Ok, Err, ⊤, ◌||◌, is_some, nat_le}
 use Rattle.meta_journal.specs.Places.{split_key}
 use Rattle.meta_journal.specs.Spelling.{spelling}
@@ -9,7 +8,7 @@ use Rattle.meta_journal.specs.declared.entry.Act.TheVariants.{Publish, Raise, Re
 use Rattle.meta_journal.specs.declared.entry.Entry.{Entry}
 use Rattle.source_log.specs.Log.{Log}
 use Rattle.split_states.specs.declared.rows.Row.{Row}
-use Rattle.index_world.specs.Calls.{Call, Effect, done_at_once, done_late, done_never, is_at_once, Fate, Gives, gives, Grace, Made, made, exists, failed, Trouble, no_memory, Unmade, troubled, Unfetched, hindered, adopted_made, and_then_by, appended, as_unmade, asked, asked_and_looked, asked_clock, asking, begun, create_at_end, deleted_by, entry_of, fence_of, fetched, fetched_from, file_by, file_deleted, file_got, file_made, file_sought, first_unless, get_at_end, got_at, got_file, last_create, last_made, last_unless, made_at, made_behind, may_append, may_fail, or_short, settle_made, settle_with, settled, settled_and_copied, sought_by, sought_unless, taken_in, taken_unless, transact, tried, troubled_by, unless_over, unless_short}
+use Rattle.index_world.specs.Calls.{Call, Effect, done_at_once, done_late, done_never, is_at_once, Fate, Gives, gives, Grace, Made, made, exists, failed, Trouble, no_memory, Unmade, troubled, Unfetched, hindered, adopted_made, and_then_by, appended, asked, asked_and_looked, asked_clock, asking, begun, create_at_end, deleted_by, entry_of, fence_of, fetched, fetched_from, file_by, file_deleted, file_got, file_made, file_sought, first_unless, get_at_end, got_at, got_file, last_create, last_made, last_unless, made_at, made_behind, may_append, may_fail, or_short, settle_made, settle_with, settled, settled_and_copied, sought_by, sought_unless, taken_unless, transact, tried, troubled_by, unless_over, unless_short}
 use Rattle.index_world.specs.CallsMade.{Ask, of_checkpoints, of_moment, of_stage, of_upload, of_publish, of_replace, of_raise, of_task, of_plan, of_fetch, of_mark_stale, of_doom, of_remove, of_sweep_list, of_sweep}
 use Rattle.index_world.specs.Collecting.{Offer, adopted_offer, answered_by, appended_if, doom_call, doom_next, doomed_by, first_offer, is_swept, last_offer, list_call, next_doomed, nothing, offer_unless, removal_offer, stale_offer, sweep_call, sweep_if, swept_unless, transact_if}
 use Rattle.index_world.specs.Core.{Core, late_entry, late_file, file_at}

@@ -1,11 +1,10 @@
 -- What an entry that the state offers says where it fails, and where there was none.
-use Rattle.std.proofs.Common.{◌≡◌, ◌≢◌, ℕ, ◌≤◌, Bool, true, false, List, [], ◌∷◌, length, refl, sym, ap, ◌∙◌, subst}
+use Rattle.std.proofs.Common.{◌≡◌, ℕ, ◌≤◌, Bool, true, false, length, refl, sym, subst}
 use Rattle.std.proofs.lemmas.Bool.{leb-true}
 use Rattle.std.specs.Prelude.{Option, Some, None, Result, Ok, Err, ⊤, nat_le}
-use Rattle.meta_journal.specs.declared.entry.Act.{Act}
 use Rattle.meta_journal.specs.declared.entry.Entry.{Entry}
 use Rattle.meta_store.specs.declared.refusal.Refusal.{Refusal}
-use Rattle.index_world.specs.Calls.{Call, Fate, Fault, store_fault, is_foreign, is_full, is_expired, Gives, gives, Made, made, exists, failed, Trouble, faulted, no_memory, Unmade, refused, troubled, and_then_by, answer_behind, asked_clock, asking, begun, create_at_end, entry_of, full_answer, get_at_end, last_create, last_made, last_unless, may_append, may_fail, or_full, or_short, settle_with, settled, troubled_by}
+use Rattle.index_world.specs.Calls.{Call, Fate, store_fault, is_foreign, is_full, is_expired, Gives, gives, Made, made, exists, failed, Trouble, faulted, no_memory, Unmade, refused, troubled, and_then_by, answer_behind, asked_clock, asking, begun, create_at_end, entry_of, full_answer, get_at_end, last_create, last_made, last_unless, may_append, may_fail, or_full, or_short, settle_with, settled, troubled_by}
 use Rattle.index_world.specs.Collecting.{Offer, adopted_offer, answered_by, appended_if, first_offer, last_offer, nothing, offer_unless, transact_if}
 use Rattle.index_world.specs.Core.{Core}
 use Rattle.index_world.specs.Index.{max_entries}

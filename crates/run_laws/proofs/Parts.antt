@@ -1,13 +1,13 @@
 -- What a batch has read is a delta: its partitions differ, and of each it has read some.
-use Rattle.std.proofs.Common.{◌≡◌, ◌⊎◌, inl, inr, ℕ, zero, suc, ◌+◌, ◌≤◌, ◌<◌, ◌==◌, ◌||◌, Bool, true, false, List, [], ◌∷◌, ◌++◌, length, bytes_eq, refl, sym, ap, ◌∙◌, subst, arith, ne_eqb}
-use Rattle.std.specs.List.{AllByRecursion, list_any}
+use Rattle.std.proofs.Common.{◌≡◌, inl, inr, ℕ, zero, suc, ◌+◌, ◌≤◌, ◌<◌, ◌==◌, ◌||◌, Bool, true, false, List, [], ◌∷◌, ◌++◌, bytes_eq, refl, sym, ap, ◌∙◌, subst, arith, ne_eqb}
+use Rattle.std.specs.List.{AllByRecursion}
 use Rattle.std.specs.Prelude.{if◌then◌else◌}
 use Rattle.source_checkpoint.specs.Deltas.{IsDelta, Names}
 use Rattle.source_checkpoint.specs.declared.delta.Part.{Part}
 use Rattle.source_checkpoint.specs.declared.ledger.Checkpoint.{Checkpoint}
 use Rattle.source_checkpoint.proofs.Ranges.{same_partition}
 use Rattle.index_config.specs.declared.config.IndexConfig.{IndexConfig}
-use Rattle.indexing_run.specs.Making.{AreApart, AreNew, AreOthers, Follows, IsLast, IsNew, IsQueue}
+use Rattle.indexing_run.specs.Making.{AreApart, AreNew, AreOthers, Follows, IsNew, IsQueue}
 use Rattle.indexing_run.specs.Places.{Batch}
 use Rattle.indexing_run.specs.Steps.{Taken, batch_after, extended, fresh_batch, marks_at, parts_after, queue_after}
 use Rattle.indexing_run.proofs.Batches.{extended-last, extended-new}

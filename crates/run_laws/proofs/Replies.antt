@@ -1,11 +1,8 @@
 -- What a client was replied by its own calls says this of the journal at the end.
-use Rattle.std.proofs.Common.{◌≡◌, ◌⊎◌, inl, inr, ℕ, ◌+◌, ◌≤◌, ◌<◌, Bool, true, false, List, [], ◌∷◌, ◌++◌, length, take, refl, sym, ap, ◌∙◌, subst, arith}
+use Rattle.std.proofs.Common.{◌≡◌, ◌⊎◌, inl, inr, ℕ, ◌≤◌, List, [], ◌∷◌, length, take, sym, ap, ◌∙◌, arith}
 use Rattle.std.proofs.lemmas.List.{take-append-le}
-use Rattle.std.specs.List.{AllByRecursion}
-use Rattle.std.specs.Prelude.{Result, Ok, Err, ⊤}
-use Rattle.byte_fields.specs.Causes.{Rose, last_count}
+use Rattle.std.specs.Prelude.{Result, Ok, Err}
 use Rattle.index_config.specs.declared.config.IndexConfig.{IndexConfig}
-use Rattle.meta_journal.specs.Places.{meta_key}
 use Rattle.meta_journal.specs.declared.entry.Entry.{Entry}
 use Rattle.meta_store.specs.History.{history}
 use Rattle.meta_store.specs.Ledgers.{ledger}
@@ -15,7 +12,6 @@ use Rattle.index_world.specs.CallsMade.{CallMade}
 use Rattle.index_world.specs.Config.{reads}
 use Rattle.index_world.specs.Configuration.{config_or, configuration}
 use Rattle.index_world.specs.Core.{Core, Nobody}
-use Rattle.index_world.specs.Index.{max_entries}
 use Rattle.index_world.specs.Ran.{IsCause}
 use Rattle.index_world.specs.Seen.{visible}
 use Rattle.index_world.specs.World.{GoesFor}

@@ -2,7 +2,7 @@
 use Rattle.std.proofs.Common.{◌≡◌, ℕ, ◌<◌, ◌≤◌, ◌&&◌, Bool, true, false, List, [], ◌∷◌, length, refl, sym, ap, ◌∙◌, subst, arith}
 use Rattle.std.proofs.lemmas.Bool.{and_from, le-leb, ltb-false, or_parts}
 use Rattle.std.specs.List.{AllByRecursion, list_any}
-use Rattle.std.specs.Prelude.{Option, Some, None, nat_le, nat_lt}
+use Rattle.std.specs.Prelude.{Some, None, nat_le, nat_lt}
 use Rattle.index_config.proofs.Ranges.{accepted-ranges}
 use Rattle.index_config.specs.Accepted.{HasPolicyRanges, HasRanges, IsBetween}
 use Rattle.index_config.specs.declared.config.IndexConfig.{IndexConfig}

@@ -1,12 +1,11 @@
 -- What the clients of a searcher were replied.
-use Rattle.std.proofs.Common.{◌≡◌, ℕ, ◌+◌, ◌≤◌, Bool, true, false, List, [], ◌∷◌, ◌++◌, length, map, take, refl, sym, ap, ◌∙◌, subst, append-nil, arith}
-use Rattle.std.proofs.lemmas.List.{length-append, length-map}
+use Rattle.std.proofs.Common.{◌≡◌, ℕ, ◌≤◌, Bool, true, false, List, [], ◌∷◌, ◌++◌, length, map, take, sym, ap, ◌∙◌, subst, append-nil, arith}
+use Rattle.std.proofs.lemmas.List.{length-map}
 use Rattle.std.specs.List.{AllByRecursion, AllZip}
-use Rattle.std.specs.Prelude.{Some, Result, Ok, Err, IsErr, IsOk, MatchBool, ⊤}
+use Rattle.std.specs.Prelude.{flat_map, Some, Result, Ok, Err, IsErr, IsOk, MatchBool, ⊤}
 use Rattle.std.specs.declared.alloc.AllocError.{AllocError}
 use Rattle.byte_fields.specs.Causes.{last_count}
 use Rattle.index_config.specs.declared.config.IndexConfig.{IndexConfig}
-use Rattle.meta_journal.specs.declared.entry.Entry.{Entry}
 use Rattle.source_log.specs.Log.{Log}
 use Rattle.index_world.specs.CallsMade.{CallMade}
 use Rattle.index_world.specs.Core.{Core, IsConfigured, Nobody}
@@ -22,13 +21,15 @@ use Rattle.root_search.specs.Searching.{new_client}
 use Rattle.root_search.specs.Steps.{Client}
 use Rattle.root_search.specs.declared.searcher.Searcher.{Searcher}
 use Rattle.root_search.proofs.Replied.{did_all, did_reply}
+use Rattle.root_search.proofs.Stretches.{longer}
 use Rattle.run_jobs.specs.Clients.{ClientsDid, Served, ServedDid, ServesOne}
 use Rattle.run_jobs.specs.declared.clients.Answered.{Answered}
 use Rattle.run_plan.specs.declared.clients.Asking.{Asking}
 use Rattle.run_laws.specs.Meanwhile.{IsBefore}
-use Rattle.run_laws.specs.SearcherReplies.{ClientAnswered, SearcherAnswered}
+use Rattle.run_laws.specs.SearcherReplies.{ClientAnswered, RiseBetween, SearcherAnswered, deleted_at}
 use Rattle.run_laws.proofs.Lists.{all_back, all_front, whole_front}
 use Rattle.run_laws.proofs.Replies.{client_replies}
+use Rattle.run_laws.proofs.Rising.{replies_rise, rise_from, rise_on, rise_to}
 
 -- ---- while a client was served the index went on
 
@@ -62,13 +63,18 @@ module _ (config : IndexConfig) (log : Log) (Between : Core → Core → Type 0)
   abbrev OneAnswered : Asking → Answered → Type 0
   OneAnswered asking answered = ClientAnswered config log exit.history (length first.history) first exit asking answered
 
+  client_are : (asking : Asking) (answered : Answered) (core : Core) (made : List CallMade) (after : Core) → GoesFor Nobody first core → GoesFor Nobody after last → AllByRecursion IsTimed made →
+      ServedDid Between log asking answered core made after → AreReplied config log last.history asking.client 0 core asking.texts.items answered.replies.items made after
+  client_are asking answered core made after to_core to_last timed s =
+      did_reply Between goes config log asking.texts.items answered.replies.items s.result s.searcher (new_client asking.client) first core after last made sound configured to_core to_last ends count texts_are (omega arith) timed s.did
+
   pub client_answered : (asking : Asking) (answered : Answered) (core : Core) (made : List CallMade) (after : Core) → GoesFor Nobody first core → GoesFor Nobody after last → AllByRecursion IsTimed made →
       ServedDid Between log asking answered core made after → OneAnswered asking answered
   client_answered asking answered core made after to_core to_last timed s =
       let name = asking.client in
       let texts = asking.texts.items in
       let replies = answered.replies.items in
-      let are = did_reply Between goes config log texts replies s.result s.searcher (new_client name) first core after last made sound configured to_core to_last ends count texts_are (omega arith) timed s.did in
+      let are = client_are asking answered core made after to_core to_last timed s in
       record {
         client = s.client;
         replies = client_replies config log first last exit on name 0 core texts replies made after to_core to_last are;
@@ -97,6 +103,24 @@ module _ (config : IndexConfig) (log : Log) (Between : Core → Core → Type 0)
         served_each next here more are.2 (goes_then first core next to_core one) to_last (all_back IsTimed step.made (calls_of more) timed),
       )
 
+  -- the revisions of all their deletes rise
+  abbrev deletes_in : List Answered → List ℕ
+  deletes_in answered = flat_map (λ (one : Answered). deleted_at one.replies.items) answered
+
+  served_rise : (core here : Core) (served : List (StepMade Served)) → AreSteps (ServesOne Between log) core served here → GoesFor Nobody first core → GoesFor Nobody here last → AllByRecursion IsTimed (calls_of served) →
+      RiseBetween (length core.history) (deletes_in (given_in served)) (length here.history)
+  served_rise core here [] are to_core to_last timed = let same = ap (λ (c : Core). length c.history) are in omega (arith, same)
+  served_rise core here (step ∷ more) are to_core to_last timed =
+      let next = are.0 in
+      let asking = step.result.asked in
+      let given = step.result.given in
+      let rest = served_go Between log next here more are.2 in
+      let one = serve_goes Between log core step next are.1 in
+      let own = client_are asking given core step.made next to_core (goes_then next here last rest to_last) (all_front IsTimed step.made (calls_of more) timed) are.1 in
+      rise_on (length core.history) (length next.history) (length here.history) (deleted_at given.replies.items) (deletes_in (given_in more))
+      (replies_rise config log last.history asking.client 0 core asking.texts.items given.replies.items step.made next own)
+      (served_rise next here more are.2 (goes_then first core next to_core one) to_last (all_back IsTimed step.made (calls_of more) timed))
+
   -- ALL CLIENTS OF A SEARCHER
   pub searcher_answered : (askings : List Asking) (answered : List Answered) (short : Bool) (result : Result (Unit {0}) AllocError) (core : Core) (made : List CallMade) (after : Core) → GoesFor Nobody first core → GoesFor Nobody after last →
       AllByRecursion IsTimed made → MatchBool short (IsErr result) (IsOk result) → ClientsDid Between log askings answered result core made after →
@@ -111,4 +135,13 @@ module _ (config : IndexConfig) (log : Log) (Between : Core → Core → Type 0)
         all = λ whole.
             let none = d.whole (subst (λ b. MatchBool b (IsErr result) (IsOk result)) whole is) in
             sym (ap length (d.asked ∙ (ap (λ (l : List Asking). asked_in d.served ++ l) none ∙ append-nil (asked_in d.served))) ∙ as_many);
+        apart =
+            let down = longer first.history core.history to_core.grown in
+            let up = goes_then d.last after last d.goes_on to_last in
+            let most = longer d.last.history last.history up.grown in
+            let later = longer last.history exit.history on.grown in
+            let rises = served_rise core d.last d.served d.are to_core up calls in
+            subst (λ (l : List Answered). RiseBetween (length first.history) (deletes_in l) (length exit.history)) (sym d.given)
+            (rise_from (length first.history) (length core.history) (length exit.history) (deletes_in (given_in d.served)) down
+            (rise_to (length core.history) (length d.last.history) (length exit.history) (deletes_in (given_in d.served)) (omega (arith, most, later)) rises));
       }

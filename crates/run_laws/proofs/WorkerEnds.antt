@@ -1,9 +1,9 @@
 -- What the end of a merger or a delete worker says of the journal at the exit.
-use Rattle.std.proofs.Common.{◌≡◌, ◌⊎◌, inl, inr, ℕ, ◌+◌, ◌≤◌, ◌<◌, Bool, true, false, List, [], ◌∷◌, ◌++◌, length, take, refl, sym, ap, ◌∙◌, subst, arith}
+use Rattle.std.proofs.Common.{◌≡◌, inl, inr, ℕ, ◌≤◌, ◌<◌, List, [], ◌∷◌, length, refl, sym, ap, ◌∙◌, subst, arith}
 use Rattle.std.proofs.lemmas.List.{length-append}
 use Rattle.std.specs.List.{AllByRecursion}
-use Rattle.std.specs.Prelude.{Option, Some, None, Result, Ok, Err, ⊤}
-use Rattle.byte_fields.specs.Causes.{Rose, last_count}
+use Rattle.std.specs.Prelude.{Option, Some, None, Ok, Err, ⊤}
+use Rattle.byte_fields.specs.Causes.{last_count}
 use Rattle.index_config.specs.declared.config.IndexConfig.{IndexConfig}
 use Rattle.merge_policy.specs.Chosen.{chosen}
 use Rattle.meta_journal.specs.declared.entry.Entry.{Entry}
@@ -13,7 +13,7 @@ use Rattle.meta_store.specs.State.{Legal}
 use Rattle.meta_store.specs.declared.refusal.Refusal.{Refusal}
 use Rattle.meta_store.specs.declared.refusal.Refusal.TheVariants.{TooManyRows}
 use Rattle.source_log.specs.Log.{Log}
-use Rattle.index_world.specs.Calls.{Fault, store_fault, is_foreign, is_full, is_expired, faulted, no_memory}
+use Rattle.index_world.specs.Calls.{Fault, is_foreign, is_full, is_expired, faulted, no_memory}
 use Rattle.index_world.specs.CallsMade.{Ask, CallMade, IsRecorded, made_of}
 use Rattle.index_world.specs.Config.{reads}
 use Rattle.index_world.specs.Configuration.{config_or, configuration}
@@ -29,7 +29,7 @@ use Rattle.index_world.proofs.Ran.{goes_then, steps_go}
 use Rattle.upkeep_run.specs.Asking.{ask_of}
 use Rattle.upkeep_run.specs.Ending.{Told}
 use Rattle.upkeep_run.specs.Outcomes.{UpkeepOutcome, Faulted, Nothing, Refused}
-use Rattle.upkeep_run.specs.Places.{Work, WorkerPlace, fetching, idle, staged, until_of, uploaded}
+use Rattle.upkeep_run.specs.Places.{WorkerPlace, fetching, idle, staged, uploaded}
 use Rattle.upkeep_run.specs.Standing.{Answers}
 use Rattle.upkeep_run.specs.Steps.{Stepped, config_in, rows_in}
 use Rattle.upkeep_run.specs.WorkAll.{Holds, WorkerAt, WorkerDid, WorkerStep, core_there, end_of, worker_at}
@@ -46,10 +46,11 @@ use Rattle.run_laws.specs.Meanwhile.{IsBefore, IsCalled}
 use Rattle.run_laws.specs.ClientReplies.{IsReached}
 use Rattle.run_laws.specs.Ends.{FaultsWorker, HadNothing, IsApplied, WorkerEnded}
 use Rattle.run_laws.proofs.CallsSay.{FaultAt, crowded_here}
-use Rattle.run_laws.proofs.LastSteps.{AllGoing, LastStep, all_going, ends_last, works_go}
+use Rattle.run_laws.proofs.LastSteps.{LastStep, all_going, ends_last, works_go}
 use Rattle.run_laws.proofs.Lists.{all_back}
 use Rattle.run_laws.proofs.Replies.{cause_wider}
 use Rattle.run_laws.proofs.Rested.{all_applied, none_chosen}
+use Rattle.run_laws.proofs.WorkerTurns.{turns_fewer}
 use Rattle.run_laws.proofs.WorkerSteps.{FaultsAt, IsGood, IsIdleThen, IsStep, IsUnstaged, Says, step_is}
 
 -- ---- what an answer of the code is
@@ -139,7 +140,7 @@ some_none : (x : UpkeepOutcome) (o : Option UpkeepOutcome) → o ≡ Some x → 
 some_none x o e f = cc
 
 -- From the first core to the last, behind which the journal went on up to the exit.
-module _ (config : IndexConfig) (log : Log) (Between : Core → Core → Type 0) (keeps_low : (core mid : Core) → Between core mid → IsLowCore core → IsLowCore mid)
+module _ (config : IndexConfig) (log : Log) (Between : Core → Core → Type 0) (goes : (core mid : Core) → Between core mid → GoesFor Nobody core mid) (keeps_low : (core mid : Core) → Between core mid → IsLowCore core → IsLowCore mid)
     (first last exit : Core) (low_first : IsLowCore first) (some : 0 < length first.history) (configured : configuration first.history ≡ Some config) (legal_last : Legal reads (history last.history))
     (on : IsBefore last exit) (counted : last.store_faults ≤ last_count) (aim : Aim) where
   -- what is known along its steps
@@ -222,9 +223,12 @@ module _ (config : IndexConfig) (log : Log) (Between : Core → Core → Type 0)
     had_nothing : (which : Aim) (ask : Ask) (core : Core) → GoesFor Nobody first core → GoesFor Nobody core last → Legal reads (history core.history) → 0 < length core.history → IsCalled first exit (made_of ask core) →
         rows_in which core ≡ [] → HadNothing config log exit.history (length first.history) first exit which
     had_nothing Merging ask core from to legal any call none =
-        let P : List Entry → Type 0 = λ es. chosen config.policy config.docs_target core.moment (rows (history es)) ≡ None in
-        (length core.history, core.moment, record { reached = (call.begins, call.ends); since = call.since; until = call.until; greatest = subst (λ (es : List Entry). moment_of (history es) ≤ core.moment) call.front call.greatest },
-            subst P call.front (none_chosen core legal any config (config_there core from to) none))
+        let P : List Entry → Type 0 = λ es. chosen config.policy config.docs_target core.moment (rows (history es)) ≡ None in (
+          length core.history,
+          core.moment,
+          record { reached = (call.begins, call.ends); since = call.since; until = call.until; greatest = subst (λ (es : List Entry). moment_of (history es) ≤ core.moment) call.front call.greatest },
+          subst P call.front (none_chosen core legal any config (config_there core from to) none),
+        )
     had_nothing Deleting ask core from to legal any call none =
         let P : List Entry → Type 0 = λ es. AllByRecursion (IsApplied (last_opstamp (history es))) (rows (history es)) in
         (length core.history, (call.begins, call.ends), subst P call.front (all_applied core legal any none))
@@ -300,18 +304,21 @@ module _ (config : IndexConfig) (log : Log) (Between : Core → Core → Type 0)
     by_error (errors.Memory e) fault place core reached low good of at cause = fault_wanted fault of
     by_error error fault place core reached low good of at cause = of
 
+    -- a step that came to a fault
+    step_fails : {ask : Ask} → (error : WorldError) (place : WorkerPlace) (core : Core) (outcome : Option UpkeepOutcome) → IsGood config first.moment place → IsFault error outcome →
+        ((fault : Fault) → outcome ≡ Some (Faulted fault) → IsCalled first exit (made_of ask core)) → Says aim place core outcome → ((before now : ℕ) → error ≡ errors.StoreFault before now → IsCause before now first exit) → Faults error
+    step_fails error place core outcome good fault called says cause =
+        let call = called fault.fault fault.is in
+        by_error error fault.fault place core (call.begins, call.ends) call.until good fault.of (subst (Says aim place core) fault.is says) cause
+
     fault_ended : (error : WorldError) → Did (ends.Fault error) → Ended (ends.Fault error)
     fault_ended error d =
         let end = ends.Fault error in
         let other : end ≡ ends.Turns → ⊥ = λ e. cc in
         let last_one = end_step end d other in
         let told = fault_told last_one.step.result error last_one.ends in
-        let fault = fault_is error last_one.did.outcome (subst (λ (t : Told). Answers t last_one.did.outcome) told last_one.did.answer) in
-        let place = last_one.mid.place in
-        let core = d.works.last.core in
-        let call = end_called end d other (Faulted fault.fault) fault.is in
-        let at : FaultsAt place core fault.fault = subst (Says aim place core) fault.is (end_is end d other).says in
-        by_error error fault.fault place core (call.begins, call.ends) call.until (end_good end d other).good fault.of at (λ before now is. cause before now is)
+        step_fails error last_one.mid.place d.works.last.core last_one.did.outcome (end_good end d other).good (fault_is error last_one.did.outcome (subst (λ (t : Told). Answers t last_one.did.outcome) told last_one.did.answer))
+        (λ fault is. end_called end d other (Faulted fault) is) (end_is end d other).says (λ before now is. cause before now is)
       where
         within : first.store_faults ≤ last_count
         within =
@@ -335,7 +342,12 @@ module _ (config : IndexConfig) (log : Log) (Between : Core → Core → Type 0)
     turns_ended : Did ends.Turns → Ended ends.Turns
     turns_ended d =
         let all = all_going (WorkerStep Between aim log) core_there end_of ends.Turns (Holds aim log held) turns ends.Turns (worker_at idle first) made last d.works refl never_turns in
-        ap (λ (l : List CallMade). length l) d.works.calls ∙ (as_many (worker_at idle first) d.works.last d.works.steps d.works.are all.going ∙ all.many)
+        let one_each = as_many (worker_at idle first) d.works.last d.works.steps d.works.are all.going in
+        let few = turns_fewer log Between goes aim last legal_last first exit first d.works.last d.works.steps d.works.are all.going (subst (AllByRecursion (IsCalled first exit)) d.works.calls called) d.works.goes_on some in
+        let many = all.many in
+        let way = longer last.history exit.history on.grown in
+        let from = longer first.history last.history (works_go (WorkerStep Between aim log) core_there end_of (Holds aim log held) (λ a x b s. s.goes_on) ends.Turns turns ends.Turns (worker_at idle first) made last d.works).grown in
+        (ap (λ (l : List CallMade). length l) d.works.calls ∙ (one_each ∙ all.many), omega (arith, few, many, way, from))
 
     -- ---- A WORKER'S END
 

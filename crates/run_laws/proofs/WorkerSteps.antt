@@ -1,5 +1,5 @@
 -- What a step of a merger or a delete worker says where it has nothing to do, is refused or fails, and what it leaves.
-use Rattle.std.proofs.Common.{◌≡◌, ℕ, ◌+◌, ◌≤◌, Bool, true, false, List, [], ◌∷◌, length, refl, sym, subst}
+use Rattle.std.proofs.Common.{◌≡◌, ℕ, ◌≤◌, Bool, true, false, List, [], ◌∷◌, refl}
 use Rattle.std.specs.Prelude.{Option, Some, None, Result, Ok, Err, ⊤, if◌then◌else◌}
 use Rattle.index_config.specs.declared.config.IndexConfig.{IndexConfig}
 use Rattle.meta_journal.specs.Places.{split_key}
@@ -8,17 +8,16 @@ use Rattle.meta_store.specs.declared.refusal.Refusal.{Refusal}
 use Rattle.source_log.specs.Log.{Log}
 use Rattle.split_states.specs.declared.facts.RowFacts.{RowFacts}
 use Rattle.split_states.specs.declared.rows.Row.{Row}
-use Rattle.index_world.specs.Calls.{Fault, store_fault, is_foreign, is_full, is_expired, Grace, Trouble, faulted, no_memory, Unmade, refused, troubled, answer_behind, asked_and_looked, entry_of, fetched, upload_made}
+use Rattle.index_world.specs.Calls.{Fault, store_fault, is_foreign, is_full, is_expired, Trouble, faulted, no_memory, Unmade, refused, troubled, answer_behind, asked_and_looked, entry_of, fetched, upload_made}
 use Rattle.index_world.specs.Core.{Core}
 use Rattle.index_world.specs.Gate.{raise_call, replace_call, stage_act, stage_call}
-use Rattle.index_world.specs.Index.{max_entries}
 use Rattle.upkeep_run.specs.Outcomes.{UpkeepOutcome}
 use Rattle.upkeep_run.specs.Outcomes as said
 use Rattle.upkeep_run.specs.Places.{Work, WorkerHeld, WorkerPlace, fetching, held_facts, held_file, idle, staged, until_of, uploaded}
 use Rattle.upkeep_run.specs.Steps.{Stepped, WorkerLuck, config_in, drops_none, fetch_by, first_number, grace_in, held_of, or_short, plan_by, plan_with, raise_by, replace_by, rows_in, stage_by, step_close, step_place, step_raise, step_stage, step_work, step_worker, trouble_outcome, upload_by, work_in}
 use Rattle.upkeep_run.specs.declared.work.Aim.{Aim}
 use Rattle.upkeep_run.specs.declared.work.Aim.TheVariants.{Deleting, Merging}
-use Rattle.node_run.proofs.CallTells.{IfErr, IsLowCore, IsStoreTrouble, asked_and_looked_own}
+use Rattle.node_run.proofs.CallTells.{IsLowCore, asked_and_looked_own}
 use Rattle.run_laws.proofs.CallsSay.{FaultAt, FetchAt, Fails, TroubleAt, Unfetches, Unmakes, entry_fails, fetch_fails, file_fails, store_fails}
 use Rattle.run_laws.proofs.Low.{appended_low, asked_and_looked_low, fetched_alone_low, file_made_low}
 

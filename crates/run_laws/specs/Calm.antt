@@ -7,9 +7,7 @@ use Rattle.indexing_run.specs.declared.indexing.IndexerEnd.{IndexerEnd}
 use Rattle.indexing_run.specs.declared.indexing.IndexerEnd.TheVariants as indexing
 use Rattle.index_world.specs.declared.world_error.WorldError.{WorldError}
 use Rattle.index_world.specs.declared.world_error.WorldError.TheVariants as errors
-use Rattle.search_api.specs.declared.reply.Refusal.{Refusal}
 use Rattle.search_api.specs.declared.reply.Refusal.TheVariants as refusals
-use Rattle.search_api.specs.declared.reply.Reply.{Reply}
 use Rattle.search_api.specs.declared.reply.Said.{Said}
 use Rattle.search_api.specs.declared.reply.Said.TheVariants.{Found, Deleted, Refused}
 use Rattle.split_collector.specs.declared.collecting.CollectorEnd.{CollectorEnd}

@@ -1,5 +1,5 @@
 -- What the ends of the actors say, by the journal at the exit.
-use Rattle.std.specs.Prelude.{◌≡◌, ◌⊎◌, ◌<◌, ◌≤◌, ℕ, true, false, List, [], ◌∷◌, length, take, find, MatchOption, Option, Some, None, Err, ⊤}
+use Rattle.std.specs.Prelude.{◌≡◌, ◌⊎◌, ◌+◌, ◌-◌, ◌*◌, ◌<◌, ◌≤◌, ℕ, true, false, List, [], ◌∷◌, length, take, find, MatchOption, Option, Some, None, Err, ⊤}
 use Rattle.std.specs.List.{AllByRecursion}
 use Rattle.byte_fields.specs.Causes.{Rose}
 use Rattle.index_config.specs.declared.config.IndexConfig.{IndexConfig}
@@ -26,6 +26,7 @@ use Rattle.index_world.specs.declared.world_error.WorldError.TheVariants as erro
 use Rattle.indexing_run.specs.IndexLaws.{AreEnds, most_partitions}
 use Rattle.indexing_run.specs.declared.indexing.IndexerEnd.{IndexerEnd}
 use Rattle.indexing_run.specs.declared.indexing.IndexerEnd.TheVariants as indexing
+use Rattle.split_collector.specs.Outcomes.{Outcome}
 use Rattle.split_collector.specs.declared.collecting.CollectorEnd.{CollectorEnd}
 use Rattle.split_collector.specs.declared.collecting.CollectorEnd.TheVariants as collecting
 use Rattle.upkeep_run.specs.declared.work.Aim.{Aim}
@@ -33,6 +34,7 @@ use Rattle.upkeep_run.specs.declared.work.Aim.TheVariants.{Deleting, Merging}
 use Rattle.upkeep_run.specs.declared.working.WorkerEnd.{WorkerEnd}
 use Rattle.upkeep_run.specs.declared.working.WorkerEnd.TheVariants as working
 use Rattle.run_laws.specs.ClientReplies.{IsLate, IsReached}
+use Rattle.run_laws.specs.Collects.{CollectsFrom}
 
 -- ---- behind so many entries
 
@@ -46,6 +48,10 @@ IsApplied last row = is_published row.state ≡ true → AllByRecursion (λ span
 
 abbrev pub AllApplied : (revision : ℕ) → List Entry → Type 0
 AllApplied revision entries = AllByRecursion (IsApplied (last_opstamp (history (take revision entries)))) (rows (history (take revision entries)))
+
+-- a merger or a delete worker that takes so many steps, none of which is an end, meets an entry that came in the meantime
+abbrev pub steps_an_entry : ℕ
+steps_an_entry = 104
 
 -- Over these entries of the journal at exit, of which there were so many at entry. From the one core to the other all worked.
 module _ (config : IndexConfig) (log : Log) (entries : List Entry) (least : ℕ) (core exit : Core) where
@@ -101,12 +107,13 @@ module _ (config : IndexConfig) (log : Log) (entries : List Entry) (least : ℕ)
   FaultsWorker (errors.Foreign key) = (number : ℕ) × (key ≡ split_key number)
   FaultsWorker error = ⊥
 
-  -- HOW A WORKER ENDED that may take so many turns, and made so many calls, one in each of its steps.
+  -- HOW A WORKER ENDED that may take so many turns, and made so many calls. It has used them up only where it made a call in each, and where an entry came
+  -- for each 104 of them.
   abbrev pub WorkerEnded : Aim → (turns calls : ℕ) → WorkerEnd → Type 0
   WorkerEnded aim turns calls working.Nothing = HadNothing aim
   WorkerEnded aim turns calls (working.Refused refusal) = (revision : ℕ) × IsReached entries least revision × IsCrowded revision entries refusal
   WorkerEnded aim turns calls (working.Fault error) = FaultsWorker error
-  WorkerEnded aim turns calls working.Turns = calls ≡ turns
+  WorkerEnded aim turns calls working.Turns = (calls ≡ turns) × (turns < steps_an_entry * (length entries - least + 1))
   WorkerEnded aim turns calls working.Memory = ⊤
 
   -- ---- a collector
@@ -169,9 +176,10 @@ module _ (config : IndexConfig) (log : Log) (entries : List Entry) (least : ℕ)
   FaultsCollector (errors.Refused refusal) = IsRefusedOwn refusal
   FaultsCollector error = ⊥
 
-  -- HOW A COLLECTOR ENDED that may take so many turns, and made so many calls, one in each of its steps at least.
+  -- HOW A COLLECTOR ENDED that may take so many turns, and made so many calls, one in each of its steps at least. It has used them up only where each of so
+  -- many steps did something.
   abbrev pub CollectorEnded : (turns calls : ℕ) → CollectorEnd → Type 0
   CollectorEnded turns calls collecting.Nothing = Collected
   CollectorEnded turns calls (collecting.Fault error) = FaultsCollector error
-  CollectorEnded turns calls collecting.Turns = turns ≤ calls
+  CollectorEnded turns calls collecting.Turns = (turns ≤ calls) × ((did : List Outcome) × (length did ≡ turns) × CollectsFrom entries least did)
   CollectorEnded turns calls collecting.Memory = ⊤

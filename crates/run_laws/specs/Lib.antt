@@ -1,5 +1,6 @@
 pub mod Meanwhile
 pub mod ClientReplies
+pub mod Collects
 pub mod Ends
 pub mod SearcherReplies
 pub mod JobSays

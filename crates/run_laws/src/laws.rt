@@ -9,6 +9,7 @@ ghost use Rattle.index_world.specs.Core.{Core, IsConfigured, Nobody};
 ghost use Rattle.index_world.specs.Gate.{IsSoundCore};
 ghost use Rattle.index_world.specs.World.{GoesFor, Keeping, WorldStands};
 ghost use Rattle.root_search.specs.Replied.{AsksTexts};
+ghost use Rattle.run_base.specs.Run.{IsRun};
 ghost use Rattle.run_jobs.specs.Jobs.{JobDid, Tells};
 ghost use Rattle.shared_gate.specs.Recording.{Begun, IsLinked, last_world};
 ghost use Rattle.shared_gate.specs.Sharing.{AtPlaces, Passes};
@@ -18,9 +19,10 @@ ghost use Rattle.run_laws.specs.Calm.{IsCalmDone, LogsStoodStill, StoodStill};
 ghost use Rattle.run_laws.specs.JobSays.{IsCounted, JobSays};
 ghost use Rattle.run_laws.specs.Meanwhile.{IsBefore, IsCalled};
 
+use clock_time::Clock;
 use object_store::ObjectStore;
 use run_jobs::{Done, Job};
-use shared_gate::Event;
+use shared_gate::{Event, Recorded};
 use source_log::SourceLog;
 
 /// Calls that stand at places of a list, which led from a world to the last one, were made between a core of that world and one that is no
@@ -43,4 +45,14 @@ pub fn job_says<L: SourceLog>()
 pub fn calm_says<L: SourceLog>()
     ensures { (config : IndexConfig) (log : Log) (entries : List Entry) (least : ℕ) (core exit : Core) (turns calls : ℕ) (job : Job L) (done : Done L) →
         StoodStill core.store_faults exit.store_faults → LogsStoodStill L.fault_count job done → JobSays L.fault_count config log entries least core exit turns calls job done → IsCalmDone done }
+{}
+
+/// What many did together from a core on says this of the journal at the exit, up to which the index went on behind them: of each job, with as
+/// many calls as it has places.
+pub fn run_says<S: ObjectStore, K: Clock, M: SourceLog, L: SourceLog>()
+    ensures { (config : IndexConfig) (log : Log) (core end exit : Core) (turns : ℕ) (begun last : Recorded S K M) (jobs : List (Job L)) (done : List (Done L)) →
+        (run : IsRun M.told L.told L.fault_count L.since turns begun jobs last done) → M.told begun.source.value ≡ Some log → IsLog log → WorldStands begun.opened.value core log → IsConfigured config core →
+        WorldStands last.world end log → last.world.store_faults ≤ last_count → IsBefore end exit → IsSoundCore exit log → AsksTexts config →
+        AllByRecursion (Tells L.told log) jobs → AllByRecursion (IsCounted L.fault_count) jobs →
+        AllByRecursion (λ one. JobSays L.fault_count config log exit.history (length core.history) core exit turns (length one.places) one.job one.done) run.runs }
 {}

@@ -3,4 +3,4 @@
 
 mod laws;
 
-pub use laws::{calls_are_seen, calm_says, job_says};
+pub use laws::{calls_are_seen, calm_says, job_says, run_says};

@@ -1,5 +1,3 @@
-use Rattle.std.proofs.Common.{refl}
-use Rattle.index_world.specs.World.{WorldStands}
 use Rattle.shared_gate.specs.Recording.{Begun}
 use Rattle.run_laws.proofs.Called.{are_called, as_many}
 use Rattle.run_laws.proofs.laws.calls_are_seen.Goals as goal
