@@ -31,11 +31,7 @@ fn clients_of(alloc: Global, requests: Vec<Request>) -> Result<Clients, AllocErr
 }
 
 /// Shares the clients of requests out among so many searchers.
-pub fn planned(
-    alloc: Global,
-    requests: Vec<Request>,
-    searchers: usize,
-) -> Result<Plan, AllocError>
+pub fn planned(alloc: Global, requests: Vec<Request>, searchers: usize) -> Result<Plan, AllocError>
     requires { 0 < searchers }
     ensures { IfOk result (IsPlanned requests.items searchers) }
 {

@@ -36,11 +36,7 @@ fn outcome_room<L: SourceLog>(alloc: Global, many: usize) -> Result<Outcome<L>, 
 }
 
 // Room for so many logs, and for so many ends.
-fn ended_room<L: SourceLog>(
-    alloc: Global,
-    logs: usize,
-    many: usize,
-) -> Result<Ended<L>, AllocError>
+fn ended_room<L: SourceLog>(alloc: Global, logs: usize, many: usize) -> Result<Ended<L>, AllocError>
     ensures none { IfOk result (λ all. (all.logs.items ≡ []) × (all.ends.items ≡ [])) }
     ensures room { IfOk result (λ all. (logs ≤ vec_capacity all.logs) × (many ≤ vec_capacity all.ends)) }
 {

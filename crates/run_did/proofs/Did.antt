@@ -144,7 +144,7 @@ module _ {S K L : Type 0} (told : L → Option Log) (count : L → ℕ) (since :
         goes_on = run_goes tells told count since options.searchers options.turns read unused requests has.first end has.made log core so begins;
         stands = run_stands tells told count since options.searchers options.turns read unused requests has.first end has.made log core so begins;
         replies = λ exit on sound.
-        run_replies tells told count since options.searchers options.turns read unused requests has.first end has.made log core so begins config is_log configured texts counted tell searchers exit (goes_before from exit on) sound;
+            run_replies tells told count since options.searchers options.turns read unused requests has.first end has.made log core so begins config is_log configured texts counted tell searchers exit (goes_before from exit on) sound;
         ends = λ exit on sound e. subst (λ n. EndsAre config log exit.history (length core.history) core exit options.turns count n 0 read end.logs.items end.ends.items) many
             (run_ends tells told count since options.searchers options.turns read unused requests has.first end has.made log core so begins config is_log configured texts counted tell searchers exit (goes_before from exit on) sound);
         whole = λ e. (has.made.worked.whole e).all_ended;

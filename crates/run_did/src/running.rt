@@ -87,5 +87,9 @@ pub fn run<
     let end = run_unsettled(rt, alloc, world, clock, logs, requests, options, hold);
     // The count of a store has its range.
     let _count = end.world.faults();
-    if options.settle { settled(alloc, end) } else { end }
+    if options.settle {
+        settled(alloc, end)
+    } else {
+        end
+    }
 }

@@ -38,12 +38,12 @@ loop-post-preserved g c =
       (let at = inv.3 in omega (arith, at, long)),
       (let here = ap (λ (ps : List (Post g.row.L.Denot)). at_work ps) steps in let both = work_cons post left in let enough = inv.4 in let used = c.end_post-log.ensures.left in omega (arith, here, both, enough, used)),
       ap (λ l. l ++ logs_behind left behind) first.ensures.items
-      ∙ (append_assoc c.loop-post.logs.items (log ∷ []) (logs_behind left behind)
-      ∙ (ap (λ l. c.loop-post.logs.items ++ l) (sym (c.end_post-log.ensures.log left) ∙ ap (λ (ps : List (Post g.row.L.Denot)). logs_behind ps before) (sym steps)) ∙ inv.5)),
+          ∙ (append_assoc c.loop-post.logs.items (log ∷ []) (logs_behind left behind)
+          ∙ (ap (λ l. c.loop-post.logs.items ++ l) (sym (c.end_post-log.ensures.log left) ∙ ap (λ (ps : List (Post g.row.L.Denot)). logs_behind ps before) (sym steps)) ∙ inv.5)),
       ap (λ l. l ++ ends_from (place + 1) left behind) second.ensures.items
-      ∙ (append_assoc c.loop-post.ends.items (kinds.Indexer place end ∷ []) (ends_from (place + 1) left behind)
-      ∙ (ap (λ n. c.loop-post.ends.items ++ kinds.Indexer place end ∷ ends_from n left behind) (add-one place)
-      ∙ (ap (λ l. c.loop-post.ends.items ++ l) (sym (c.end_post-log.ensures.end place left) ∙ ap (λ (ps : List (Post g.row.L.Denot)). ends_from place ps before) (sym steps)) ∙ inv.6))),
+          ∙ (append_assoc c.loop-post.ends.items (kinds.Indexer place end ∷ []) (ends_from (place + 1) left behind)
+          ∙ (ap (λ n. c.loop-post.ends.items ++ kinds.Indexer place end ∷ ends_from n left behind) (add-one place)
+          ∙ (ap (λ l. c.loop-post.ends.items ++ l) (sym (c.end_post-log.ensures.end place left) ∙ ap (λ (ps : List (Post g.row.L.Denot)). ends_from place ps before) (sym steps)) ∙ inv.6))),
       (
         (let k = pushed_long c.loop-post.logs.items first.new.all.items _ first.ensures.items in let v = inv.7.0 in let a = c.loop-post.logs.ok.0 in let b = first.new.all.ok.0 in omega (arith, k, v, a, b, long)),
         (let k = pushed_long c.loop-post.ends.items second.new.all.items _ second.ensures.items in let v = inv.7.1 in let a = c.loop-post.ends.ok.0 in let b = second.new.all.ok.0 in omega (arith, k, v, a, b, long)),

@@ -10,8 +10,7 @@ loop-one-init c = (tt, tt, c.into_iter-one-iterator.ensures.into_iter_gives.0, c
 
 pub loop-one-preserved : goal.loop-one-preserved
 loop-one-preserved c =
-    let inv = c.loop-one.invariant in
-    (
+    let inv = c.loop-one.invariant in (
       tt,
       tt,
       one_given c.loop-one.yielded (into_iter_items c.next.new.self) _ _ c.in-Some.one c.in-Some.ensures.steps.0 inv.2,

@@ -30,8 +30,7 @@ loop-preserved c =
     let more : (suc next ≡ count → ⊥) → coming ≡ suc next = elim c.if-next-count.branch [
       | then-next-count w ↦ (λ other. absurd (other (let t = w.if-next-count.true in omega (arith, t))))
       | else-next-count w ↦ (λ other. let is = w.next-is in omega (arith, is))
-    ] in
-    (
+    ] in (
       inv.0 - 1,
       omega (arith, left, test),
       within,
