@@ -1,13 +1,18 @@
-use Rattle.std.proofs.Common.{◌≡◌, Some, None, map, sum, refl, sym, ap, ◌∙◌, subst, inl, inr, arith}
+use Rattle.std.proofs.Common.{◌≡◌, ◌<◌, ◌≤◌, ℕ, List, Some, None, length, map, sum, refl, sym, ap, ◌∙◌, subst, inl, inr, arith}
 use Rattle.std.specs.Prelude.{min}
 use Rattle.std.specs.String.{string_bytes}
 use Rattle.command_words.specs.declared.command.Command.TheVariants as commands
+use Rattle.command_words.specs.Words.{IsWithin}
+use Rattle.command_words.specs.declared.run.RunOptions.{RunOptions}
+use Rattle.command_words.proofs.Bounds.{run_is_within}
 use Rattle.command_words.proofs.Naming.{names_alone}
 use Rattle.index_world.specs.Core.{last_count}
 use Rattle.node_run.specs.Logs.{logs_in}
+use Rattle.run_all.specs.declared.run_end.RunOptions.{RunOptions as Options}
 use Rattle.run_serving.specs.Causes.{faults_of}
 use Rattle.run_serving.specs.Opening.{outside_of, EndsBy, ReportFinds}
 use Rattle.run_serving.specs.Reporting.{Reports}
+use Rattle.run_serving.specs.Runs.{AsksRun, IsRun, options_of}
 use Rattle.run_serving.specs.declared.reporting.Report.TheVariants as kinds
 use Rattle.run_serving.proofs.Caused.{other_causes}
 use Rattle.run_serving.proofs.Finding.{unread_opening}
@@ -226,3 +231,122 @@ returns-in-Describe g c = record {
   log_sum = c.report-in-Describe.ensures.log_sum;
   unread = λ other run. c.report-in-Describe.ensures.unread;
 }
+
+-- ---- the command is `run`
+
+within_bounds : (given : List (List ℕ)) (asked : RunOptions) → IsRun asked given → IsWithin asked
+within_bounds given asked run = let words = names_alone given (commands.Run asked) run in run_is_within words.0 asked words.2
+
+pub options_of-options-requires : goal.options_of-options-requires
+options_of-options-requires g c = within_bounds (map string_bytes c.args.words.now) c.in-Run.asked (sym c.in-Ok.ensures ∙ (c.in-Some.is ∙ ap Some c.in-Run.is))
+
+pub run_index-requires-clause-indexers : goal.run_index-requires-clause-indexers
+run_index-requires-clause-indexers g c κs lives =
+    let w = (within_bounds (map string_bytes c.args.words.now) c.in-Run.asked (sym c.in-Ok.ensures ∙ (c.in-Some.is ∙ ap Some c.in-Run.is))).indexers in
+    let is = ap (λ (o : Options). o.indexers) c.options_of-options.ensures in
+    let few = c.if-len-options.false in
+    let len = c.len.ensures in
+    let low = w.0 in
+    let high = w.1 in
+    (omega (arith, is, low), omega (arith, is, high), omega (arith, few, len))
+
+pub run_index-requires-clause-searchers : goal.run_index-requires-clause-searchers
+run_index-requires-clause-searchers g c κs lives =
+    let w = (within_bounds (map string_bytes c.args.words.now) c.in-Run.asked (sym c.in-Ok.ensures ∙ (c.in-Some.is ∙ ap Some c.in-Run.is))).searchers in
+    let is = ap (λ (o : Options). o.searchers) c.options_of-options.ensures in
+    let low = w.0 in
+    let high = w.1 in
+    (omega (arith, is, low), omega (arith, is, high))
+
+-- of more indexers than there are logs
+too_many : (given : List (List ℕ)) (asked : RunOptions) (options : Options) (logs : ℕ) → IsRun asked given → options ≡ options_of asked → logs < options.indexers → AsksRun logs given → ⊥
+too_many given asked options logs run is many asks =
+    let same : asked ≡ asks.0 = same_run (sym run ∙ asks.1) in
+    let few : asked.indexers ≤ logs = subst (λ (o : RunOptions). o.indexers ≤ logs) (sym same) asks.2 in
+    let count = ap (λ (o : Options). o.indexers) is in
+    omega (arith, few, count, many)
+
+pub returns-then-len-options : goal.returns-then-len-options
+returns-then-len-options g c = record {
+  drives = λ history before drive shows enters. absurd (run_or_drive (named_so _ _ (Some (commands.Run c.in-Run.asked)) commands.Drive c.in-Ok.ensures (c.in-Some.is ∙ ap Some c.in-Run.is) drive));
+  runs = λ options history before run within shows enters. absurd (none (options, run, within));
+  creates = λ history before create shows enters. absurd (run_or_create (named_so _ _ (Some (commands.Run c.in-Run.asked)) commands.Create c.in-Ok.ensures (c.in-Some.is ∙ ap Some c.in-Run.is) create));
+  reports = λ asked history before asks shows enters. absurd (unnamed (asked_so _ _ (Some (commands.Run c.in-Run.asked)) asked c.in-Ok.ensures (c.in-Some.is ∙ ap Some c.in-Run.is) asks));
+  only_reads = λ asked asks. absurd (unnamed (asked_so _ _ (Some (commands.Run c.in-Run.asked)) asked c.in-Ok.ensures (c.in-Some.is ∙ ap Some c.in-Run.is) asks));
+  refuses = λ other run none splits describe. (
+    record {
+      kept = ap g.S.ObjectStore.told c.refuse-then-len-options.ensures.store;
+      store_count = ap g.S.ObjectStore.fault_count c.refuse-then-len-options.ensures.store;
+      reported = c.refuse-then-len-options.ensures.store_faults;
+      log_sum = c.refuse-then-len-options.ensures.log_sum ∙ ap (λ ls. min (sum (map g.L.SourceLog.fault_count ls)) last_count) c.refuse-then-len-options.ensures.logs;
+      left_same = refl;
+      read_same = refl;
+    },
+    c.refuse-then-len-options.ensures.writes,
+  );
+  opening = record {
+    drive = λ drive. absurd (run_or_drive (named_so _ _ (Some (commands.Run c.in-Run.asked)) commands.Drive c.in-Ok.ensures (c.in-Some.is ∙ ap Some c.in-Run.is) drive));
+    run = λ run. absurd (none run);
+    create = λ create. absurd (run_or_create (named_so _ _ (Some (commands.Run c.in-Run.asked)) commands.Create c.in-Ok.ensures (c.in-Some.is ∙ ap Some c.in-Run.is) create));
+    report = λ asked asks. absurd (unnamed (asked_so _ _ (Some (commands.Run c.in-Run.asked)) asked c.in-Ok.ensures (c.in-Some.is ∙ ap Some c.in-Run.is) asks));
+  };
+  causes =
+      other_causes (faults_of (g.S.ObjectStore.fault_count c.args.store) (g.R.Source.fault_count c.args.input.now) (g.W.Sink.fault_count c.args.output.now)) (faults_of (g.S.ObjectStore.fault_count c.refuse-then-len-options.result.0.store) (g.R.Source.fault_count c.args.input.now) (g.W.Sink.fault_count c.refuse-then-len-options.new.output))
+      c.refuse-then-len-options.result.0.status (omega arith) c.refuse-then-len-options.ensures.counted c.refuse-then-len-options.ensures.status;
+  statuses = record {
+    drive = λ drive. absurd (run_or_drive (named_so _ _ (Some (commands.Run c.in-Run.asked)) commands.Drive c.in-Ok.ensures (c.in-Some.is ∙ ap Some c.in-Run.is) drive));
+    run = λ run. absurd (none run);
+    create = λ create. absurd (run_or_create (named_so _ _ (Some (commands.Run c.in-Run.asked)) commands.Create c.in-Ok.ensures (c.in-Some.is ∙ ap Some c.in-Run.is) create));
+    report = λ asked asks. absurd (unnamed (asked_so _ _ (Some (commands.Run c.in-Run.asked)) asked c.in-Ok.ensures (c.in-Some.is ∙ ap Some c.in-Run.is) asks));
+    other = λ other run none splits describe. c.refuse-then-len-options.ensures.status;
+  };
+  counts = c.refuse-then-len-options.ensures.store_faults ∙ sym (ap g.S.ObjectStore.fault_count c.refuse-then-len-options.ensures.store);
+  log_sum = c.refuse-then-len-options.ensures.log_sum;
+  unread = λ other run. c.refuse-then-len-options.ensures.logs;
+}
+  where
+    none : AsksRun (length c.args.logs.items) (map string_bytes c.args.words.now) → ⊥
+    none = too_many (map string_bytes c.args.words.now) c.in-Run.asked c.options_of-options.result (length c.args.logs.items) (sym c.in-Ok.ensures ∙ (c.in-Some.is ∙ ap Some c.in-Run.is)) c.options_of-options.ensures
+        (let many = c.if-len-options.true in let len = c.len.ensures in omega (arith, many, len))
+
+pub returns-else-len-options : goal.returns-else-len-options
+returns-else-len-options g c = record {
+  drives = λ history before drive shows enters. absurd (run_or_drive (named_so _ _ (Some (commands.Run c.in-Run.asked)) commands.Drive c.in-Ok.ensures (c.in-Some.is ∙ ap Some c.in-Run.is) drive));
+  runs = λ options history before run within shows enters.
+      let same : c.in-Run.asked ≡ options = same_run (sym is ∙ run) in
+      c.run_index.ensures.runs options history before (c.options_of-options.ensures ∙ ap options_of same) shows enters;
+  creates = λ history before create shows enters. absurd (run_or_create (named_so _ _ (Some (commands.Run c.in-Run.asked)) commands.Create c.in-Ok.ensures (c.in-Some.is ∙ ap Some c.in-Run.is) create));
+  reports = λ asked history before asks shows enters. absurd (unnamed (asked_so _ _ (Some (commands.Run c.in-Run.asked)) asked c.in-Ok.ensures (c.in-Some.is ∙ ap Some c.in-Run.is) asks));
+  only_reads = λ asked asks. absurd (unnamed (asked_so _ _ (Some (commands.Run c.in-Run.asked)) asked c.in-Ok.ensures (c.in-Some.is ∙ ap Some c.in-Run.is) asks));
+  refuses = λ other run none splits describe. absurd (run asked);
+  opening = record {
+    drive = λ drive. absurd (run_or_drive (named_so _ _ (Some (commands.Run c.in-Run.asked)) commands.Drive c.in-Ok.ensures (c.in-Some.is ∙ ap Some c.in-Run.is) drive));
+    run = λ run. c.run_index.ensures.opening;
+    create = λ create. absurd (run_or_create (named_so _ _ (Some (commands.Run c.in-Run.asked)) commands.Create c.in-Ok.ensures (c.in-Some.is ∙ ap Some c.in-Run.is) create));
+    report = λ asked asks. absurd (unnamed (asked_so _ _ (Some (commands.Run c.in-Run.asked)) asked c.in-Ok.ensures (c.in-Some.is ∙ ap Some c.in-Run.is) asks));
+  };
+  causes = c.run_index.ensures.causes.causes;
+  statuses = record {
+    drive = λ drive. absurd (run_or_drive (named_so _ _ (Some (commands.Run c.in-Run.asked)) commands.Drive c.in-Ok.ensures (c.in-Some.is ∙ ap Some c.in-Run.is) drive));
+    run = λ run. c.run_index.ensures.causes.known;
+    create = λ create. absurd (run_or_create (named_so _ _ (Some (commands.Run c.in-Run.asked)) commands.Create c.in-Ok.ensures (c.in-Some.is ∙ ap Some c.in-Run.is) create));
+    report = λ asked asks. absurd (unnamed (asked_so _ _ (Some (commands.Run c.in-Run.asked)) asked c.in-Ok.ensures (c.in-Some.is ∙ ap Some c.in-Run.is) asks));
+    other = λ other run none splits describe. absurd (run asked);
+  };
+  counts = c.run_index.ensures.store_faults;
+  log_sum = c.run_index.ensures.log_sum;
+  unread = λ other run. absurd (run asked);
+}
+  where
+    is : IsRun c.in-Run.asked (map string_bytes c.args.words.now)
+    is = sym c.in-Ok.ensures ∙ (c.in-Some.is ∙ ap Some c.in-Run.is)
+
+    asked : AsksRun (length c.args.logs.items) (map string_bytes c.args.words.now)
+    asked = (
+      c.in-Run.asked,
+      is,
+      let few = c.if-len-options.false in
+      let len = c.len.ensures in
+      let count = ap (λ (o : Options). o.indexers) c.options_of-options.ensures in
+      omega (arith, few, len, count),
+    )
