@@ -6,6 +6,7 @@ use crate::deleter_races::DELETER_RACES;
 use crate::deleter_rows::DELETER_ROWS;
 use crate::merger_rows::MERGER_ROWS;
 use crate::report_rows::REPORT_ROWS;
+use crate::run_rows::RUN_ROWS;
 use crate::script::ROWS;
 use crate::search_rows::SEARCH_ROWS;
 use crate::serving::serve_with_logs;
@@ -15,6 +16,7 @@ use meta_journal::{Act, Entry, encode_entry, meta_key};
 use object_store::{
     CreateError, GetError, Key, Keys, Landing, ListError, MemoryStore, ObjectStore, Piece,
 };
+use root_search::NoHold;
 use source_checkpoint::Partition;
 use source_log::{FaultyLog, MemoryLog};
 use std::alloc::{AllocError, Global};
@@ -384,6 +386,7 @@ fn done<Rt: Threads + Wait + Sync>(
         held,
         logs,
         clock,
+        &NoHold,
         &mut input,
         &mut output,
     );
@@ -609,6 +612,11 @@ fn rows_of_the_delete_worker(rt: HostRuntime) -> Result<(), Fail> {
 #[test]
 fn rows_of_the_delete_worker_beside_others(rt: HostRuntime) -> Result<(), Fail> {
     do_rows(&rt, rt.alloc(), DELETER_RACES, 10)
+}
+
+#[test]
+fn rows_of_runs(rt: HostRuntime) -> Result<(), Fail> {
+    do_rows(&rt, rt.alloc(), RUN_ROWS, 20)
 }
 
 const SCHEDULE: &str =
