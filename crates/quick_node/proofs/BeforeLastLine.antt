@@ -71,6 +71,7 @@ run_status (ended.BadLine number) end is = sym (ap status_of is)
 run_status ended.ClientsOver end is = sym (ap status_of is)
 run_status ended.LineOver end is = sym (ap status_of is)
 run_status ended.InputOver end is = sym (ap status_of is)
+run_status ended.RequestsOver end is = absurd is
 run_status ended.ConfigOver end is = absurd is
 run_status (ended.NotOpened error) end is = absurd is
 run_status (ended.NotMade error) end is = absurd is
@@ -86,6 +87,7 @@ run_line (ended.BadLine number) end is = sym (ap error_of is)
 run_line ended.ClientsOver end is = sym (ap error_of is)
 run_line ended.LineOver end is = sym (ap error_of is)
 run_line ended.InputOver end is = sym (ap error_of is)
+run_line ended.RequestsOver end is = absurd is
 run_line ended.ConfigOver end is = absurd is
 run_line (ended.NotOpened error) end is = absurd is
 run_line (ended.NotMade error) end is = absurd is
@@ -93,11 +95,11 @@ run_line ended.ReadFault end is = sym (ap error_of is)
 run_line ended.WriteFault end is = sym (ap error_of is)
 run_line ended.Memory end is = sym (ap error_of is)
 
-fault_line : (a b : ℕ) → last_line (ended.NotOpened (errors.StoreFault a b)) ≡ error_of (opening_failed a b)
+pub fault_line : (a b : ℕ) → last_line (ended.NotOpened (errors.StoreFault a b)) ≡ error_of (opening_failed a b)
 unfolding digits
 fault_line a b = refl
 
-none_line : last_line (ended.NotOpened errors.NoIndex) ≡ error_of no_index
+pub none_line : last_line (ended.NotOpened errors.NoIndex) ≡ error_of no_index
 unfolding digits
 none_line = refl
 
@@ -121,7 +123,7 @@ front_none [] rest e = refl
 front_none (c ∷ cs) rest e = cc
 
 -- of no line nothing is written
-silent : (low high : ℕ) (piece : List ℕ) → WroteLine low high [] piece → piece ≡ []
+pub silent : (low high : ℕ) (piece : List ℕ) → WroteLine low high [] piece → piece ≡ []
 silent low high piece (inl e) = e
 silent low high piece (inr w) = let rest = w.1 in front_none piece rest.0 rest.1
 

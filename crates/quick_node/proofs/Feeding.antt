@@ -9,7 +9,7 @@ use Rattle.quick_node.specs.declared.lines.Taken.{Taken}
 use Rattle.quick_node.specs.declared.lines.Taken.TheVariants as taken
 use Rattle.quick_node.specs.declared.lines.Next.{Next}
 use Rattle.quick_node.specs.declared.lines.Next.TheVariants as next
-use Rattle.quick_node.specs.Reading.{onto_line, raw_lines, max_line, max_input, end_of, next_feed}
+use Rattle.quick_node.specs.Reading.{onto_line, raw_lines, max_line, max_input, end_of, feed_behind}
 use Rattle.quick_node.specs.Held.{held}
 use Rattle.quick_node.specs.Pieces.{IsFed, IsFault, EndsWith, IsUnbroken, Splits, with_feed, Takes, Comes}
 
@@ -59,15 +59,15 @@ begins (c ∷ d ∷ front) rest u some =
     (begins (d ∷ front) rest (All-tail IsByte c (d ∷ front) u) (omega arith))
 
 -- no byte of an unbroken piece stands behind the next line feed
-pub before_feed : (at : ℕ) (piece rest : List ℕ) → IsUnbroken piece → at + length piece ≤ next_feed at (raw_lines (piece ++ rest)) []
+pub before_feed : (at : ℕ) (piece rest : List ℕ) → IsUnbroken piece → at + length piece ≤ feed_behind at (raw_lines (piece ++ rest)) 0
 before_feed at [] rest u = from_here (raw_lines rest)
   where
-    from_here : (raws : List (List ℕ)) → at + 0 ≤ next_feed at raws []
+    from_here : (raws : List (List ℕ)) → at + 0 ≤ feed_behind at raws 0
     from_here [] = omega arith
     from_here (raw ∷ raws) = omega arith
 before_feed at (c ∷ piece) rest u =
     let b = begins (c ∷ piece) rest u (omega arith) in
-    subst (λ raws. at + length (c ∷ piece) ≤ next_feed at raws []) (sym b.is) (omega (arith, b.longer))
+    subst (λ raws. at + length (c ∷ piece) ≤ feed_behind at raws 0) (sym b.is) (omega (arith, b.longer))
 
 -- ---- a line that is under way
 

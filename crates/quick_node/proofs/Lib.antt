@@ -1,4 +1,8 @@
 pub mod Feeding
+pub mod Asking
+pub mod SaidLines
+pub mod RunEnds
+pub mod RequestsInOneWay
 pub mod Written
 pub mod Opened
 mod TaskCauses
@@ -50,6 +54,9 @@ mod MergeCalls
 mod Merged
 mod ApplyCalls
 mod Applied
+mod JsonTokens
+mod JsonTexts
+mod AskedTexts
 mod Refusing
 mod LogFaults
 pub mod CreateLeaves
@@ -60,3 +67,5 @@ mod CausedReports
 mod Unread
 mod Finding
 mod Quiet
+pub mod RunClause
+pub mod RunFound

@@ -74,7 +74,7 @@ length_with client (other ∷ clients) = by (bytes_eq other.name client.name) re
     by false e true f ih = rw (e, f) (ap suc (ih ∙ ap (λ c. if c then length clients else suc (length clients)) f))
     by false e false f ih = rw (e, f) (ap suc (ih ∙ ap (λ c. if c then length clients else suc (length clients)) f))
 
-named_with : (q name : List ℕ) (names : List (List ℕ)) → list_any (bytes_eq q) (with_client_name name names) ≡ (bytes_eq name q || list_any (bytes_eq q) names)
+pub named_with : (q name : List ℕ) (names : List (List ℕ)) → list_any (bytes_eq q) (with_client_name name names) ≡ (bytes_eq name q || list_any (bytes_eq q) names)
 named_with q name names = by (list_any (bytes_eq name) names) refl (bytes_eq name q) refl
   where
     by : (k : Bool) → list_any (bytes_eq name) names ≡ k → (b : Bool) → bytes_eq name q ≡ b →
@@ -83,7 +83,7 @@ named_with q name names = by (list_any (bytes_eq name) names) refl (bytes_eq nam
     by true e false f = rw (e, f) refl
     by false e b f = ap (λ k. list_any (bytes_eq q) (if k then names else name ∷ names)) e ∙ ap (λ x. x || list_any (bytes_eq q) names) (same-turned q name)
 
-length_named : (name : List ℕ) (names : List (List ℕ)) → length (with_client_name name names) ≡ (if list_any (bytes_eq name) names then length names else suc (length names))
+pub length_named : (name : List ℕ) (names : List (List ℕ)) → length (with_client_name name names) ≡ (if list_any (bytes_eq name) names then length names else suc (length names))
 length_named name names = by (list_any (bytes_eq name) names) refl
   where
     by : (k : Bool) → list_any (bytes_eq name) names ≡ k → length (with_client_name name names) ≡ (if list_any (bytes_eq name) names then length names else suc (length names))

@@ -335,6 +335,7 @@ module _ (Stands : Node → Type 0) (readers : ℕ) (input : List ℕ) (begun : 
       ends_with ended.ClientsOver t = ends_many t.0 t.1 t.2
       ends_with ended.LineOver t = absurd t
       ends_with ended.InputOver t = absurd t
+      ends_with ended.RequestsOver t = absurd t
       ends_with ended.ConfigOver t = absurd t
       ends_with (ended.NotOpened error) t = absurd t
       ends_with (ended.NotMade error) t = absurd t

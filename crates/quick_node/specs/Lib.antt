@@ -18,4 +18,8 @@ pub mod Applies
 pub mod Creating
 pub mod Reporting
 pub mod Opening
+pub mod Requests
+pub mod Asking
+pub mod Runs
+pub mod Saying
 pub mod Contract

@@ -50,6 +50,7 @@ EndsLine Stands text number node held content before after ended.ClientsOver =
     Stands node × (content ≡ Some held) × IsNotTaken text node accepts.TooManyClients
 EndsLine Stands text number node held content before after ended.LineOver = ⊥
 EndsLine Stands text number node held content before after ended.InputOver = ⊥
+EndsLine Stands text number node held content before after ended.RequestsOver = ⊥
 EndsLine Stands text number node held content before after ended.ConfigOver = ⊥
 EndsLine Stands text number node held content before after (ended.NotOpened error) = ⊥
 EndsLine Stands text number node held content before after (ended.NotMade error) = ⊥
@@ -82,6 +83,7 @@ IsRunEnd (ended.BadLine number) end = end ≡ by_reading (bad_line number)
 IsRunEnd ended.ClientsOver end = end ≡ by_reading clients_over
 IsRunEnd ended.LineOver end = end ≡ by_reading line_over
 IsRunEnd ended.InputOver end = end ≡ by_reading input_over
+IsRunEnd ended.RequestsOver end = ⊥
 IsRunEnd ended.ConfigOver end = ⊥
 IsRunEnd (ended.NotOpened error) end = ⊥
 IsRunEnd (ended.NotMade error) end = ⊥
