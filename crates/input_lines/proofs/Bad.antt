@@ -1,4 +1,4 @@
--- What is answered where bytes are no line (a copy of node_run's).
+-- What is answered where bytes are no request.
 use Rattle.std.proofs.Common.{◌≡◌, sym, subst}
 use Rattle.std.proofs.lemmas.Result.{err_from_is_err_and}
 use Rattle.std.specs.Prelude.{Result, MatchResult}

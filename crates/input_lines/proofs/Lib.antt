@@ -1,9 +1,9 @@
+pub mod Spelling
+pub mod Splitting
+pub mod Bad
+pub mod Naming
 pub mod Asked
-mod Asking
-mod Bad
-mod Feeding
-mod Names
-mod Naming
+pub mod Feeding
+pub mod Names
+pub mod Asking
 pub mod RequestsInOneWay
-mod Spelling
-mod Splitting

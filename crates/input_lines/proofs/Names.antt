@@ -1,11 +1,11 @@
--- Names, each once (a copy of some of quick_node's).
+-- Names, each once.
 use Rattle.std.proofs.Common.{◌≡◌, ℕ, suc, Bool, true, false, List, ◌∷◌, length, refl, sym, ap, ◌∙◌}
 use Rattle.std.proofs.lemmas.Slice.Eq.{bytes_eq-Decides}
 use Rattle.std.specs.List.{list_any}
 use Rattle.std.specs.Prelude.{◌||◌, if◌then◌else◌, bytes_eq}
 use Rattle.input_lines.specs.Reading.{with_client_name}
 
-same-true : (a b : List ℕ) → bytes_eq a b ≡ true → a ≡ b
+pub same-true : (a b : List ℕ) → bytes_eq a b ≡ true → a ≡ b
 same-true a b = (bytes_eq-Decides a b).0
 
 same-refl : (a : List ℕ) → bytes_eq a a ≡ true

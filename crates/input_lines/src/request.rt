@@ -11,12 +11,12 @@ use std::alloc::{AllocError, Global};
 use std::str;
 use thiserror::Error;
 
-/// Why bytes are no line.
+/// Why bytes are no request.
 #[derive(Debug, Drop, Error)]
 pub enum LineError {
     #[error("out of memory")]
     Memory(AllocError),
-    #[error("no line of a schedule")]
+    #[error("no request of a run")]
     BadLine,
 }
 

@@ -15,7 +15,8 @@ use Rattle.node_run.specs.Telling.{MayTell}
 use Rattle.node_run.specs.Turns.{Turns}
 use Rattle.index_world.specs.Saying.{words}
 use Rattle.quick_node.specs.Ending.{ended_status, is_silent, cause_words, last_line, EndsSo}
-use Rattle.quick_node.specs.Reading.{Ending, stopped, ReadsFrom, Reads, raw_lines}
+use Rattle.input_lines.specs.Reading.{raw_lines}
+use Rattle.quick_node.specs.Reading.{Ending, stopped, ReadsFrom, Reads}
 use Rattle.quick_node.specs.Running.{Counts, IsRunEnd, HasRunEnd, HasRun, HasWritten, Runs}
 use Rattle.quick_node.specs.Serve.{CutShort, WroteMost, Before, After, End, by_reading, no_index, opening_failed, read_failed, write_failed, out_of_memory, status_of, error_line, error_of, WroteLine, Wrote, HasEnd, Opens, Answers, Unopened, Lives, BeginsAlong, Along}
 use Rattle.quick_node.specs.declared.error_line.End.{End as Ended}

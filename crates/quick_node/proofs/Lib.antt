@@ -1,8 +1,4 @@
-pub mod Feeding
-pub mod Asking
 pub mod SaidLines
-pub mod RunEnds
-pub mod RequestsInOneWay
 pub mod Written
 pub mod Opened
 mod TaskCauses
@@ -54,9 +50,6 @@ mod MergeCalls
 mod Merged
 mod ApplyCalls
 mod Applied
-mod JsonTokens
-mod JsonTexts
-mod AskedTexts
 mod Refusing
 mod LogFaults
 pub mod CreateLeaves

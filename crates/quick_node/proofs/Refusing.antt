@@ -57,7 +57,7 @@ use Rattle.quick_node.specs.Fronts.{Known, after_outcome, config_then, known_of}
 use Rattle.quick_node.specs.Reading.{last_moment}
 use Rattle.quick_node.specs.Refusals.{IfRefused, Refuses, RefusesAsked, RefusesDelete, RefusesFrom}
 use Rattle.quick_node.specs.Serve.{IsPrefixOf, Before, After, End, HasEnd, IsFresh, Answers, Lives}
-use Rattle.quick_node.proofs.AskedTexts.{asked_utf8}
+use Rattle.node_run.proofs.AskedTexts.{asked_utf8}
 use Rattle.quick_node.proofs.Beginning.{RiseFrom, end_rises, lives_say, starts}
 use Rattle.quick_node.proofs.Clocks.{turn_ticks}
 use Rattle.quick_node.proofs.Files.{IsTimed, appended_few}

@@ -16,26 +16,26 @@ use Rattle.index_world.specs.Loading.{IsUnread}
 use Rattle.index_world.specs.World.{GoesFor, IsWorld}
 use Rattle.index_world.specs.declared.world_error.WorldError.{WorldError}
 use Rattle.index_world.specs.declared.world_error.WorldError.TheVariants as errors
-use Rattle.run_all.specs.declared.run_end.RunOptions.{RunOptions}
+use Rattle.node_run.specs.declared.run_end.RunOptions.{RunOptions}
 use Rattle.node_run.specs.Node.{Node}
 use Rattle.node_run.specs.Standing.{GivesLogs, LetGo}
 use Rattle.node_run.proofs.CallMoves.{Grows, grows_on}
 use Rattle.run_plan.specs.declared.clients.Request.{Request}
 use Rattle.quick_node.specs.Ending.{EndsSo, ended_status, last_line}
-use Rattle.quick_node.specs.Requests.{HasRead, IsFault, Reads}
+use Rattle.input_lines.specs.Requests.{HasRead, IsFault, Reads}
 use Rattle.quick_node.specs.Runs.{Did, End, IsShown, Opened, Read, Ran, RunSays, Runs, Said, SaidAll, SaidSome, Unread as Unmade, reading_error, said_text, by_reading, no_index, opening_failed, options_of, out_of_memory, reading_status, status_of, write_failed}
 use Rattle.quick_node.specs.Saying.{EndsSaying, RanOn, SaidAlone, SaysSome, SaysUpTo, end_of}
 use Rattle.quick_node.specs.Serve.{After, Before, IsCalm, IsFresh, IsPrefixOf, Opens, Returns, ShowsAfter, WroteLine}
 use Rattle.quick_node.specs.declared.error_line.End.{End as Ended}
 use Rattle.quick_node.specs.declared.error_line.End.TheVariants as ended
-use Rattle.quick_node.specs.declared.requests.ReadEnd.{ReadEnd}
-use Rattle.quick_node.specs.declared.requests.ReadEnd.TheVariants as reads
+use Rattle.input_lines.specs.declared.requests.ReadEnd.{ReadEnd}
+use Rattle.input_lines.specs.declared.requests.ReadEnd.TheVariants as reads
 use Rattle.quick_node.proofs.BeforeLastLine.{fault_line, none_line, silent, silent_short}
 use Rattle.quick_node.proofs.DriveClause.{new_moment, new_sure, new_undoomed, new_unmarked, unread_front}
 use Rattle.quick_node.proofs.Exact.{not_faulted, not_none, still_not_failed}
 use Rattle.quick_node.proofs.NodeAtEnd.{opens_moves}
 use Rattle.quick_node.proofs.Onces.{are_left, configured_on, covers_at, holds_once}
-use Rattle.quick_node.proofs.RequestsInOneWay.{requests_in_one_way}
+use Rattle.input_lines.proofs.RequestsInOneWay.{requests_in_one_way}
 use Rattle.quick_node.proofs.Searching.{prefix_on}
 use Rattle.quick_node.proofs.Short.{opens_short}
 

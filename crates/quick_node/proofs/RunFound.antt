@@ -9,13 +9,13 @@ use Rattle.index_world.specs.World.{Keeping}
 use Rattle.quick_node.specs.Causes.{DriveCauses, EndsRunBy, faults_of}
 use Rattle.quick_node.specs.Ending.{ended_status}
 use Rattle.quick_node.specs.Opening.{EndsBy, IsFound, IsFoundFrom, Outside, RunFinds}
-use Rattle.quick_node.specs.Requests.{IsFault}
+use Rattle.input_lines.specs.Requests.{IsFault}
 use Rattle.quick_node.specs.Running.{counts_of}
 use Rattle.quick_node.specs.Saying.{SaidAlone, end_of}
 use Rattle.quick_node.specs.declared.error_line.End.{End as Ended}
 use Rattle.quick_node.specs.declared.error_line.End.TheVariants as ended
-use Rattle.quick_node.specs.declared.requests.ReadEnd.{ReadEnd}
-use Rattle.quick_node.specs.declared.requests.ReadEnd.TheVariants as reads
+use Rattle.input_lines.specs.declared.requests.ReadEnd.{ReadEnd}
+use Rattle.input_lines.specs.declared.requests.ReadEnd.TheVariants as reads
 use Rattle.quick_node.proofs.Caused.{run_causes}
 use Rattle.quick_node.proofs.RunClause.{none_some, some_is}
 

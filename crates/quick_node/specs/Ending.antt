@@ -3,8 +3,9 @@ use Rattle.std.specs.Prelude.{◌≡◌, ◌⊎◌, ℕ, ◌==◌, ◌||◌, Boo
 use Rattle.index_world.specs.Saying.{words, error_words}
 use Rattle.index_world.specs.declared.world_error.WorldError.{WorldError}
 use Rattle.index_world.specs.declared.world_error.WorldError.TheVariants as errors
-use Rattle.quick_node.specs.Reading.{max_clients, max_line, max_input, max_config}
-use Rattle.quick_node.specs.Requests.{max_requests}
+use Rattle.input_lines.specs.Reading.{max_clients, max_line, max_input}
+use Rattle.quick_node.specs.Reading.{max_config}
+use Rattle.input_lines.specs.Requests.{max_requests}
 use Rattle.quick_node.specs.Serve.{WroteLine}
 use Rattle.quick_node.specs.declared.error_line.End.{End}
 use Rattle.quick_node.specs.declared.error_line.End.TheVariants as ends

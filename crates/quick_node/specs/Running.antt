@@ -14,7 +14,8 @@ use Rattle.node_run.specs.Turns.{Turn, Turns}
 use Rattle.quick_node.specs.declared.error_line.End.{End as Ended}
 use Rattle.quick_node.specs.declared.error_line.End.TheVariants as ended
 use Rattle.quick_node.specs.Collects.{LineCollects}
-use Rattle.quick_node.specs.Reading.{raw_lines, fits, fit_of, names_in, last_moment, max_clients, Within, all_read, bad_line, clients_over, line_over, input_over, stopped, Reads, FailsBehind}
+use Rattle.input_lines.specs.Reading.{raw_lines, max_clients, Within}
+use Rattle.quick_node.specs.Reading.{fits, fit_of, names_in, last_moment, all_read, bad_line, clients_over, line_over, input_over, stopped, Reads, FailsBehind}
 use Rattle.quick_node.specs.Once.{Reaches}
 use Rattle.quick_node.specs.Serve.{CutShort, WroteMost, TurnsAlong, RunAlong, End, by_reading, no_index, opening_failed, read_failed, write_failed, out_of_memory}
 

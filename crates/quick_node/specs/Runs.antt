@@ -19,19 +19,17 @@ use Rattle.index_world.specs.Standing.{IsCoreOf}
 use Rattle.index_world.specs.World.{GoesFor}
 use Rattle.node_run.specs.Node.{Node}
 use Rattle.run_plan.specs.declared.clients.Request.{Request}
-use Rattle.run_all.specs.Replies.{RepliesFrom}
-use Rattle.run_all.specs.declared.run_end.RunOptions.{RunOptions}
-use Rattle.run_did.specs.RunAll.{EndsAre, IsSettled}
-use Rattle.run_laws.specs.ClientReplies.{IsReplyTo}
-use Rattle.run_settle.specs.EndLines.{end_text, settled_text}
-use Rattle.run_settle.specs.declared.end_lines.ActorEnd.{ActorEnd}
-use Rattle.run_settle.specs.declared.settling.Settled.{Settled}
+use Rattle.node_run.specs.declared.run_end.RunOptions.{RunOptions}
+use Rattle.node_run.specs.RunAll.{RunSaid}
+use Rattle.node_run.specs.EndLines.{end_text, settled_text}
+use Rattle.node_run.specs.declared.end_lines.ActorEnd.{ActorEnd}
+use Rattle.node_run.specs.declared.settling.Settled.{Settled}
 use Rattle.quick_node.specs.Once.{HoldsOnce, CoversAt, AreLeft}
-use Rattle.quick_node.specs.Reading.{max_clients, max_input, max_line}
-use Rattle.quick_node.specs.Requests.{HasRead, IsFault, Reads, max_requests}
+use Rattle.input_lines.specs.Reading.{max_clients, max_input, max_line}
+use Rattle.input_lines.specs.Requests.{HasRead, IsFault, Reads, max_requests}
 use Rattle.quick_node.specs.Serve.{IsPrefixOf, Before, After, IsCalm, IsFresh, Opens, WroteLine, error_line, limit_line}
-use Rattle.quick_node.specs.declared.requests.ReadEnd.{ReadEnd}
-use Rattle.quick_node.specs.declared.requests.ReadEnd.TheVariants as reads
+use Rattle.input_lines.specs.declared.requests.ReadEnd.{ReadEnd}
+use Rattle.input_lines.specs.declared.requests.ReadEnd.TheVariants as reads
 
 -- ---- the words
 
@@ -104,10 +102,8 @@ said_text said = with_feeds (said_lines said)
 
 -- A run from the one core to the other, of an index under this configuration, over this log, said this to these requests; the counts of the logs' faults
 -- were and are these. Each request has its reply, each actor its end, and settling what it came to.
-pub record RunSays (config : IndexConfig) (log : Log) (core exit : Core) (options : RunOptions) (firsts lasts : List ℕ) (requests : List Request) (said : Said) : Type 0 where
-  pub replies : RepliesFrom (IsReplyTo config log exit.history (length core.history) core exit) [] requests said.replies
-  pub ends : EndsAre config log exit.history (length core.history) core exit options.turns (λ count. count) options.indexers 0 (take options.indexers firsts) lasts said.ends
-  pub settled : IsSettled options.settle said.settled core exit
+abbrev pub RunSays : (config : IndexConfig) (log : Log) (core exit : Core) (options : RunOptions) (firsts lasts : List ℕ) (requests : List Request) (said : Said) → Type 0
+RunSays config log core exit options firsts lasts requests said = RunSaid config log core exit options firsts lasts requests said.replies said.ends said.settled
 
 -- Of an opened index a run was made, between these cores, by the requests of the whole input, and it said this.
 pub record Ran (options : RunOptions) (before : Before) (after : After) (opened last : Core) (said : Said) : Type 0 where

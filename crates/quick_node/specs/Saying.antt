@@ -8,15 +8,15 @@ use Rattle.source_log.specs.Log.{Log}
 use Rattle.index_world.specs.Core.{Core, IsConfigured, Nobody}
 use Rattle.index_world.specs.World.{GoesFor, IsWorld}
 use Rattle.run_plan.specs.declared.clients.Request.{Request}
-use Rattle.run_all.specs.declared.run_end.RunOptions.{RunOptions}
-use Rattle.run_settle.specs.EndLines.{end_text}
+use Rattle.node_run.specs.declared.run_end.RunOptions.{RunOptions}
+use Rattle.node_run.specs.EndLines.{end_text}
 use Rattle.quick_node.specs.Ending.{ended_status}
 use Rattle.quick_node.specs.Runs.{RunSays, Said, said_text}
 use Rattle.quick_node.specs.Serve.{IsPrefixOf}
 use Rattle.quick_node.specs.declared.error_line.End.{End as Ended}
 use Rattle.quick_node.specs.declared.error_line.End.TheVariants as ended
-use Rattle.quick_node.specs.declared.requests.ReadEnd.{ReadEnd}
-use Rattle.quick_node.specs.declared.requests.ReadEnd.TheVariants as reads
+use Rattle.input_lines.specs.declared.requests.ReadEnd.{ReadEnd}
+use Rattle.input_lines.specs.declared.requests.ReadEnd.TheVariants as reads
 use Rattle.quick_node.specs.declared.saying.Unsaid.{Unsaid}
 use Rattle.quick_node.specs.declared.saying.Unsaid.TheVariants as unsaid
 

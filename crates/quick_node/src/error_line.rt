@@ -5,10 +5,9 @@ ghost use Rattle.index_world.specs.Saying.{with_words};
 ghost use Rattle.quick_node.specs.Ending.{opening_status as status_of_opening, making_status as status_of_making, ended_status, limit_words, cause_words, last_line};
 
 use crate::creating::MAX_CONFIG;
-use crate::lines::{MAX_INPUT, MAX_LINE};
-use crate::requests::MAX_REQUESTS;
 use byte_fields::Bytes;
 use index_world::{WorldError, put_fault, put_number, put_word};
+use input_lines::{MAX_INPUT, MAX_LINE, MAX_REQUESTS};
 use node_run::MAX_CLIENTS;
 use std::alloc::{AllocError, Global};
 

@@ -16,15 +16,12 @@ ghost use Rattle.root_search.specs.declared.outcome.SearchStep.TheVariants.{Repl
 ghost use Rattle.search_api.specs.declared.reply.Reply.{Reply};
 ghost use Rattle.node_run.specs.Node.{Node, Line, StepClient, Outcome, client_said};
 ghost use Rattle.node_run.specs.Turns.{Turn, turns};
-ghost use Rattle.run_plan.specs.declared.clients.Request.{Request};
 ghost use Rattle.quick_node.specs.Deletes.{DeletesFrom};
 ghost use Rattle.quick_node.specs.Fronts.{GoesOnFrom, Known};
 ghost use Rattle.quick_node.specs.Once.{HoldsOnce, CoversAt, AreLeft};
 ghost use Rattle.quick_node.specs.Opening.{Outside, EndsBy, DriveFinds, ReportFinds, TellsFound};
 ghost use Rattle.quick_node.specs.Reading.{Ending, stopped, Reads};
-ghost use Rattle.quick_node.specs.Requests.{IsFault, Reads as IsAsked};
 ghost use Rattle.quick_node.specs.Running.{Counts, HasRun, HasRunEnd};
-ghost use Rattle.quick_node.specs.declared.requests.ReadEnd.{ReadEnd};
 ghost use Rattle.quick_node.specs.Serve.{IsPrefixOf, Before, After, End, HasEnd, IsFresh, Opens, Answers, Lives, IsShown, IsCalm, AnswersFrom, EntersAs, create_entry, status_of, reading_status};
 
 use crate::reporting::Report;
@@ -78,12 +75,6 @@ pub fn answers_go_on_by_one()
 pub fn an_input_is_read_in_one_way()
     ensures { (readers : ℕ) (input : List ℕ) (lines others : List Line) (ending other : Ending) → ending ≢ stopped → other ≢ stopped →
         Reads readers input lines ending → Reads readers input others other → (lines ≡ others) × (ending ≡ other) }
-{}
-
-/// So is that of a run, where it doesn't fail.
-pub fn the_requests_of_an_input_are_read_in_one_way()
-    ensures { (input : List ℕ) (requests others : List Request) (end other : ReadEnd) → (IsFault end → ⊥) → (IsFault other → ⊥) →
-        IsAsked input requests end → IsAsked input others other → (requests ≡ others) × (end ≡ other) }
 {}
 
 /// A reading that stopped earlier has a front of these lines.

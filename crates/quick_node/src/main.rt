@@ -6,10 +6,8 @@
 mod creating;
 mod error_line;
 pub mod laws;
-mod lines;
 mod reasons;
 mod reporting;
-mod requests;
 mod running;
 mod saying;
 mod serving;

@@ -6,7 +6,7 @@ ghost use Rattle.search_api.specs.Replies.{reply_text};
 ghost use Rattle.source_log.specs.Log.{IsLog, Log};
 ghost use Rattle.index_world.specs.Core.{Core};
 ghost use Rattle.index_world.specs.World.{WorldStands};
-ghost use Rattle.run_settle.specs.EndLines.{end_text, settled_text};
+ghost use Rattle.node_run.specs.EndLines.{end_text, settled_text};
 ghost use Rattle.quick_node.specs.Runs.{with_feeds};
 ghost use Rattle.quick_node.specs.Saying.{EndsSaying, IsUnsaid, RunsOn, SaysUpTo, WroteSo};
 
@@ -15,12 +15,10 @@ use crate::writing::write_all;
 use byte_fields::{Bytes, Sink};
 use clock_time::{Clock, ScriptClock};
 use index_world::World;
+use node_run::{ActorEnd, RunEnd, RunOptions, Settled, end_line, run, settled_line};
 use object_store::ObjectStore;
 use root_search::NoHold;
-use run_all::{RunEnd, RunOptions};
-use run_did::run;
 use run_plan::Request;
-use run_settle::{ActorEnd, Settled, end_line, settled_line};
 use search_api::{Reply, print_reply};
 use source_log::SourceLog;
 use std::alloc::{AllocError, Global};
@@ -184,8 +182,6 @@ pub fn finish<
         RunsOn options log (map L.fault_count logs.items) (map L.fault_count result.logs.items) core requests.items
         (S.told result.store) (S.fault_count result.store) held (W.content output.new) result.end }
 {
-    // An opened index has a configuration.
-    let _config = world.config();
     let RunEnd {
         world,
         logs,

@@ -1,9 +1,9 @@
-use Rattle.std.proofs.Common.{◌≡◌, ◌++◌, ◌∙◌, [], append-nil, ap, inl, inr, refl, sym, subst, ℕ, List, length, map}
+use Rattle.std.proofs.Common.{◌≡◌, ◌++◌, ◌∙◌, [], append-nil, ap, inl, inr, refl, sym, subst, ℕ, List, map}
 use Rattle.std.specs.Prelude.{Option, Some}
 use Rattle.index_config.specs.declared.config.IndexConfig.{IndexConfig}
+use Rattle.index_world.specs.Configuration.{config_or, configuration}
 use Rattle.index_world.specs.Core.{IsConfigured}
-use Rattle.quick_node.proofs.AskedTexts.{asked_utf8}
-use Rattle.quick_node.proofs.RunEnds.{all_in_front, counted_ends}
+use Rattle.node_run.proofs.RunCounts.{configured_so}
 use Rattle.quick_node.proofs.SaidLines.{says_none, says_by}
 use Rattle.quick_node.specs.Runs.{RunSays, Said}
 use Rattle.quick_node.specs.Saying.{SaysSome, SaysUpTo}
@@ -13,15 +13,12 @@ use Rattle.quick_node.proofs.saying.finish.Goals.{then-memory, else-memory}
 
 pub returns-clause-ran : goal.returns-clause-ran
 returns-clause-ran g c core log held is_log stands told at =
-    let config = c.config-config.result.now in
+    let config = config_or (configuration core.history) in
     let count = g.L.SourceLog.fault_count in
-    let options = c.args.options in
-    let logs = c.args.logs.items in
-    let end = c.run-world.result in
-    let configured = c.config-config.ensures.step core log stands in
-    let did = c.run-world.ensures.ran config core log is_log stands configured (asked_utf8 config) (all_in_front (λ own. g.L.SourceLog.told own ≡ Some log) options.indexers logs told) in
+    let did = c.run-world.ensures.ran core log is_log stands told in
     let Holds : Said → Type 0 = λ said.
-    (config : IndexConfig) × IsConfigured config core × RunSays config log core did.exit options (map count logs) (map count end.logs.items) c.args.requests.items said in
+    (config : IndexConfig) × IsConfigured config core
+    × RunSays config log core did.exit c.args.options (map count c.args.logs.items) (map count c.run-world.result.logs.items) c.args.requests.items said in
     let wrote : (text : List ℕ) × (g.W.Sink.content c.if-memory.output ≡ Some (held ++ text)) × SaysSome Holds text c.if-memory.end =
     elim c.if-memory.branch [
       | then-memory w ↦ ([], ap g.W.Sink.content w.output-is ∙ at ∙ ap Some (sym (append-nil held)), says_none Holds c.if-memory.end w.end-is)
@@ -31,14 +28,10 @@ returns-clause-ran g c core log held is_log stands told at =
             s.0,
             ap g.W.Sink.content w.output-is ∙ s.1,
             says_by Holds said s.0 w.say_run-end.result c.if-memory.end w.end-is (
-                    config,
-                    configured,
-                    record {
-                      replies = did.replies w.if-memory.false;
-                      ends = counted_ends count config log did.exit.history (length core.history) core did.exit options.turns options.indexers logs end.logs.items end.ends.items (did.ends w.if-memory.false);
-                      settled = did.settled w.if-memory.false;
-                    },
-                )
+              config,
+              configured_so c.args.world core log stands,
+              did.said w.if-memory.false,
+            )
                 (subst (λ es. SaysUpTo (record { replies = c.run-world.result.replies.items; ends = es; settled = c.run-world.result.settled }) s.0 w.say_run-end.result) w.as_slice-else-memory.ensures.value
                 (subst (λ rs. SaysUpTo (record { replies = rs; ends = w.as_slice-else-memory.result.now; settled = c.run-world.result.settled }) s.0 w.say_run-end.result) w.as_slice.ensures.value s.2)),
           )

@@ -52,7 +52,7 @@ returns-in-Err-clause-runs g c asked history before same shows enters =
     c.in-Err.ensures.step before.kept fresh.core before.log shows.kept (shows.store_faults ∙ sym count) (ap Some (c.at.ensures ∙ sym clock)) (omega (arith, clock)) (ap (λ n. n.core.frozen) b.is.is) b.world in
     let w = c.ended.ensures.writes before.written streams.written in
     let wrote = subst (λ n. ((status ≡ ended_status (ended.NotOpened error)) × WroteLine n (g.W.Sink.fault_count c.ended.new.output) (last_line (ended.NotOpened error)) w.text) ⊎ ((status ≡ 11) × (w.text ≡ [])))
-        streams.write_faults w.wrote in
+    streams.write_faults w.wrote in
     run_returned g.S.ObjectStore.told g.S.ObjectStore.fault_count g.L.SourceLog.fault_count g.L.SourceLog.since g.R.Source.left g.R.Source.fault_count g.W.Sink.content g.W.Sink.fault_count
     (λ after. Runs asked history before after status) c.ended.result.0.store c.ended.result.0.store_faults c.ended.result.0.log_faults c.args.logs.items (logs_in c.ended.result.1) c.args.input.now c.ended.new.output
     l.kept (before.written ++ w.text) (ap g.S.ObjectStore.told c.ended.ensures.store ∙ l.tells) (ap g.S.ObjectStore.fault_count c.ended.ensures.store ∙ sym c.ended.ensures.store_faults)

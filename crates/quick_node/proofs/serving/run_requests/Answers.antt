@@ -34,16 +34,16 @@ returns-clause-ran g c core log held is_log stands told at =
       end = end;
       ran = subst (λ ls. RunsOn c.args.options log (map count c.args.logs.items) (map count ls) core c.args.requests.items (g.S.ObjectStore.told c.ended.result.0.store)
           (g.S.ObjectStore.fault_count c.ended.result.0.store) held (g.W.Sink.content c.ended.new.output) end) (sym c.ended.ensures.logs) (record {
-        exit = r.exit;
-        goes_on = r.goes_on;
-        kept = r.kept;
-        tells = ap g.S.ObjectStore.told c.ended.ensures.store ∙ r.tells;
-        world = r.world;
-        faults = ap g.S.ObjectStore.fault_count c.ended.ensures.store ∙ r.faults;
-        text = r.text;
-        written = w.written ∙ ap (λ t. Some ((held ++ r.text) ++ t)) silent ∙ ap Some (append-nil (held ++ r.text));
-        says = r.says;
-      });
+            exit = r.exit;
+            goes_on = r.goes_on;
+            kept = r.kept;
+            tells = ap g.S.ObjectStore.told c.ended.ensures.store ∙ r.tells;
+            world = r.world;
+            faults = ap g.S.ObjectStore.fault_count c.ended.ensures.store ∙ r.faults;
+            text = r.text;
+            written = w.written ∙ ap (λ t. Some ((held ++ r.text) ++ t)) silent ∙ ap Some (append-nil (held ++ r.text));
+            says = r.says;
+          });
       rose = said_rose (write c.args.output.now) (write c.finish-end.new.output) (write c.ended.new.output) end c.ended.ensures.counted c.finish-end.ensures.ends;
       status_is = c.ended.ensures.status;
     }

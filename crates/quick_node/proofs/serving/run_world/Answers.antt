@@ -5,12 +5,12 @@ use Rattle.node_run.specs.Logs.{logs_in}
 use Rattle.object_store.specs.Store.{State, WhereTold}
 use Rattle.quick_node.specs.Ending.{ended_status, last_line}
 use Rattle.quick_node.specs.Opening.{IsFoundFrom, SaysAlone, outside_of}
-use Rattle.quick_node.specs.Requests.{HasRead}
+use Rattle.input_lines.specs.Requests.{HasRead}
 use Rattle.quick_node.specs.Runs.{Runs, options_of}
 use Rattle.quick_node.specs.Saying.{RanOn, end_of}
 use Rattle.quick_node.specs.Serve.{WroteLine}
 use Rattle.quick_node.specs.declared.error_line.End.TheVariants as ended
-use Rattle.quick_node.specs.declared.requests.ReadEnd.TheVariants as reads
+use Rattle.input_lines.specs.declared.requests.ReadEnd.TheVariants as reads
 use Rattle.quick_node.proofs.RunClause.{goes_still, memory_silent, run_returned, runs_failed, runs_ran, runs_short, whole_is}
 use Rattle.quick_node.proofs.RunFound.{failed_causes, found_from, said_causes, said_finds, short_causes, unread_finds}
 use Rattle.quick_node.proofs.serving.run_world.Goals as goal
@@ -60,11 +60,11 @@ returns-in-None-clause-runs g c asked history before fresh opened same is opens 
     let lasts = logs_in c.run_requests.result.1 in
     let read = subst (λ end. HasRead before.input (g.R.Source.left c.read_requests.new.input) c.in-Ok.requests.items end) (whole_is c.in-Ok.read (sym c.end_of.ensures ∙ c.in-None.is)) (c.in-Ok.ensures.reads before.input streams.input_left) in
     let r : RanOn (options_of asked) before.log before.log_faults (map count lasts) opened.core c.in-Ok.requests.items (g.S.ObjectStore.told store) (g.S.ObjectStore.fault_count store) before.written
-        (g.W.Sink.content c.run_requests.new.output) (g.W.Sink.fault_count c.args.output.now) (g.W.Sink.fault_count c.run_requests.new.output) status =
+    (g.W.Sink.content c.run_requests.new.output) (g.W.Sink.fault_count c.args.output.now) (g.W.Sink.fault_count c.run_requests.new.output) status =
     subst (λ fs. RanOn (options_of asked) before.log fs (map count lasts) opened.core c.in-Ok.requests.items (g.S.ObjectStore.told store) (g.S.ObjectStore.fault_count store) before.written
-        (g.W.Sink.content c.run_requests.new.output) (g.W.Sink.fault_count c.args.output.now) (g.W.Sink.fault_count c.run_requests.new.output) status) logs.log_faults
+    (g.W.Sink.content c.run_requests.new.output) (g.W.Sink.fault_count c.args.output.now) (g.W.Sink.fault_count c.run_requests.new.output) status) logs.log_faults
     (subst (λ o. RanOn o before.log (map count c.args.logs.items) (map count lasts) opened.core c.in-Ok.requests.items (g.S.ObjectStore.told store) (g.S.ObjectStore.fault_count store) before.written
-        (g.W.Sink.content c.run_requests.new.output) (g.W.Sink.fault_count c.args.output.now) (g.W.Sink.fault_count c.run_requests.new.output) status) same
+    (g.W.Sink.content c.run_requests.new.output) (g.W.Sink.fault_count c.args.output.now) (g.W.Sink.fault_count c.run_requests.new.output) status) same
     (e.ran opened.core before.log before.written is_log stands logs.log streams.written)) in
     run_returned g.S.ObjectStore.told g.S.ObjectStore.fault_count g.L.SourceLog.fault_count g.L.SourceLog.since g.R.Source.left g.R.Source.fault_count g.W.Sink.content g.W.Sink.fault_count
     (λ after. Runs asked history before after status) store c.run_requests.result.0.store_faults c.run_requests.result.0.log_faults c.args.logs.items lasts c.read_requests.new.input c.run_requests.new.output

@@ -8,7 +8,7 @@ use Rattle.command_words.proofs.Bounds.{run_is_within}
 use Rattle.command_words.proofs.Naming.{names_alone}
 use Rattle.index_world.specs.Core.{last_count}
 use Rattle.node_run.specs.Logs.{logs_in}
-use Rattle.run_all.specs.declared.run_end.RunOptions.{RunOptions as Options}
+use Rattle.node_run.specs.declared.run_end.RunOptions.{RunOptions as Options}
 use Rattle.quick_node.specs.Causes.{faults_of}
 use Rattle.quick_node.specs.Opening.{outside_of, EndsBy, ReportFinds}
 use Rattle.quick_node.specs.Reporting.{Reports}
@@ -346,7 +346,7 @@ returns-else-len-options g c = record {
       c.in-Run.asked,
       is,
       let few = c.if-len-options.false in
-      let len = c.len.ensures in
-      let count = ap (λ (o : Options). o.indexers) c.options_of-options.ensures in
-      omega (arith, few, len, count),
+          let len = c.len.ensures in
+          let count = ap (λ (o : Options). o.indexers) c.options_of-options.ensures in
+          omega (arith, few, len, count),
     )
