@@ -63,9 +63,9 @@ word --turns=0
 > b {"delete":{"query":"red"}}
 > a {"search":{"query":"*"}}
 < {"client":"a","opstamp":1,"revision":4}
-< {"aggregations":{},"client":"a","hits":[{"body":"red hen"}],"num_hits":1,"revision":4}
+< {"aggregations":{},"client":"a","hits":[{"body":"red fox"},{"body":"red hen"}],"num_hits":2,"revision":4}
 < {"client":"b","opstamp":2,"revision":5}
-< {"aggregations":{},"client":"a","hits":[{"body":"red hen"}],"num_hits":1,"revision":4}
+< {"aggregations":{},"client":"a","hits":[{"body":"red fox"},{"body":"red hen"}],"num_hits":2,"revision":4}
 < indexer 0 caughtup
 < merger turns
 < deleter turns
@@ -80,6 +80,11 @@ word --searchers
 word 1
 word --turns
 word 0
+< error 1 badwords
+run 1
+log
+command run
+word --help
 < error 1 badwords
 run 1
 log
@@ -125,7 +130,7 @@ command run
 word --indexers=1
 word --searchers=1
 word --turns=0
-room 21
+room 22
 < indexer 0 caughtup
 << mer
 run 6
@@ -158,12 +163,13 @@ run 0
 row two indexers, and an index that is settled
 log
 record p0 {"body":"red fox"}
+record p0 {"body":"red owl"}
 record p1 {"body":"red hen"}
 log
 record p0 {"body":"red fox"}
+record p0 {"body":"red owl"}
 record p1 {"body":"red hen"}
 command run
-word --settle
 word --indexers=2
 word --searchers=1
 word --turns=0
@@ -172,14 +178,69 @@ word --turns=0
 < merger turns
 < deleter turns
 < collector turns
+run 0
+log
+record p0 {"body":"red fox"}
+record p0 {"body":"red owl"}
+record p1 {"body":"red hen"}
+log
+record p0 {"body":"red fox"}
+record p0 {"body":"red owl"}
+record p1 {"body":"red hen"}
+command run
+word --settle
+word --indexers=2
+word --searchers=1
+word --turns=0
+> a {"delete":{"query":"fox"}}
+> a {"search":{"query":"*","max_hits":0}}
+< {"client":"a","opstamp":1,"revision":6}
+< {"aggregations":{},"client":"a","hits":[],"num_hits":3,"revision":6}
+< indexer 0 caughtup
+< indexer 1 caughtup
+< merger turns
+< deleter turns
+< collector turns
 < settled
 run 0
 command describe
-< revision 7
-< opstamp 0
-< staged 0 published 1 marked 2
+< revision 11
+< opstamp 1
+< staged 0 published 1 marked 3
 < docs 2 rejected 0
-< checkpoint p0 1
+< checkpoint p0 2
 < checkpoint p1 1
+run 0
+row each span is applied where an index is settled
+log
+record p0 {"body":"red fox"}
+record p0 {"body":"red owl"}
+record p1 {"body":"red hen"}
+command run
+word --indexers=1
+word --searchers=1
+word --turns=0
+< indexer 0 caughtup
+< merger turns
+< deleter turns
+< collector turns
+run 0
+log
+command run
+word --settle
+word --indexers=1
+word --searchers=1
+word --turns=0
+> a {"delete":{"query":"fox"}}
+< {"client":"a","opstamp":1,"revision":4}
+< indexer 0 caughtup
+< merger turns
+< deleter turns
+< collector turns
+< settled
+run 0
+command splits
+< 1 marked docs 3 rejected 0 merges 0 times none spans p0:0-2:0:0 p1:0-1:0:0
+< 2 published docs 2 rejected 0 merges 0 times none spans p0:0-2:0:1 p1:0-1:0:1
 run 0
 "#;

@@ -614,7 +614,7 @@ fn rows_of_the_delete_worker_beside_others(rt: HostRuntime) -> Result<(), Fail> 
 
 #[test]
 fn rows_of_runs(rt: HostRuntime) -> Result<(), Fail> {
-    do_rows(&rt, rt.alloc(), RUN_ROWS, 15)
+    do_rows(&rt, rt.alloc(), RUN_ROWS, 20)
 }
 
 const SCHEDULE: &str =
