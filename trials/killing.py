@@ -2,13 +2,14 @@
 """Kills the program at random moments while it indexes, starts it again over the same folders, and looks at the end whether
 each record is found once.
 
-    trials/killing.py PROGRAM [--kills N] [--records N] [--docs N] [--reports N] [--seed N]
+    trials/killing.py PROGRAM [--kills N] [--records N] [--docs N] [--reports N] [--seed N] [--run]
 
 The records lie in four partitions, and each has a number of its own. The program is killed (SIGKILL) so many times, and then
 let to its end. The collector steps among the indexers, with graces so short that it takes what each killed run left. Beside it
 so many loops ask `describe` and `splits` by turns, from the first run to the last: each report must end with status 0, say
-nothing on standard error, and never show an older revision than the report before it. What `*` finds must be as many as there
-are records, and the numbers that are found, read by pages, each record's own, once. Behind the collector's last step each file
+nothing on standard error, and never show an older revision than the report before it. With `--run` it is the command `run`
+that is killed, with four indexers, a merger, a delete worker and a collector in threads, which live by the system's clock;
+else `drive`, step by step. What `*` finds must be as many as there are records, and the numbers that are found, read by pages, each record's own, once. Behind the collector's last step each file
 is that of a published row. It prints how often it was killed, how many reports were written, what the collector did, what
 stands in the folder, and `each record once`, or what differs.
 """
@@ -121,6 +122,38 @@ class Reports(threading.Thread):
             self.done += 1
 
 
+def ran(path, index, *options, killed_behind=None):
+    """Starts `run`, and kills it behind so many seconds. Returns the lines of the ends, or None where it was killed."""
+    command = [path, index.store, index.logs, "run", f"--indexers={PARTITIONS}", "--searchers=1", "--turns=1000000", *options]
+    process = subprocess.Popen(command, stdin=subprocess.DEVNULL, stdout=subprocess.PIPE, stderr=subprocess.PIPE, text=True)
+    timer = threading.Timer(killed_behind, process.kill) if killed_behind is not None else None
+    if timer:
+        timer.start()
+    said, told = process.communicate()
+    if timer:
+        timer.cancel()
+    if process.returncode < 0:
+        return None
+    lines = said.splitlines()
+    allowed = ("caughtup", "nothing", "turns", "settled")
+    if process.returncode != 0 or told or any(it.split()[-1] not in allowed for it in lines):
+        raise SystemExit(f"it ends with status {process.returncode}: {lines} {told!r}")
+    return lines
+
+
+def all_ran(path, index):
+    """Runs to the end, and again behind the graces until only published rows are left."""
+    ends = ran(path, index, "--settle")
+    wanted = [f"indexer {it} caughtup" for it in range(PARTITIONS)]
+    if ends is None or ends[:PARTITIONS] != wanted or ends[-1] != "settled":
+        raise SystemExit(f"the last run says: {ends}")
+    for _ in range(6):
+        time.sleep(9)
+        ran(path, index)
+        if all(it.state == "published" for it in index.splits()):
+            break
+
+
 def found(drive, asked):
     return drive.ask(poltyqen.request_text({"search": asked}))
 
@@ -133,6 +166,7 @@ def main():
     given.add_argument("--docs", type=int, default=700, help="how many documents a split has")
     given.add_argument("--reports", type=int, default=1)
     given.add_argument("--seed", type=int, default=7)
+    given.add_argument("--run", action="store_true", help="kill the command run, where every actor has a thread of its own")
     asked = given.parse_args()
     chance, path = random.Random(asked.seed), os.path.abspath(asked.program)
     folder = tempfile.mkdtemp(prefix="poltyqen-killing-")
@@ -148,7 +182,9 @@ def main():
     for one in reports:
         one.start()
     killed, moment, collects = 0, AFTER_TODAY, collections.Counter()
-    for _ in range(asked.kills):
+    for _ in range(asked.kills if asked.run else 0):
+        killed += ran(path, index, killed_behind=chance.uniform(0.01, 0.3)) is None
+    for _ in range(0 if asked.run else asked.kills):
         drive = poltyqen.Drive(path, index.store, index.logs)
         timer = threading.Timer(chance.uniform(0.01, 0.3), drive.process.kill)
         timer.start()
@@ -156,16 +192,20 @@ def main():
         timer.cancel()
         drive.kill()
         killed += 1
-    drive = poltyqen.Drive(path, index.store, index.logs)
     begun = time.monotonic()
-    moment = indexed(drive, moment, collects)
+    if asked.run:
+        all_ran(path, index)
+    drive = poltyqen.Drive(path, index.store, index.logs)
+    if not asked.run:
+        moment = indexed(drive, moment, collects)
     if moment is None:
         raise SystemExit("the last run ended early")
     for one in reports:
         one.ended.set()
         one.join()
     wrong = [it for one in reports for it in one.wrong]
-    all_collected(drive, moment, collects)
+    if not asked.run:
+        all_collected(drive, moment, collects)
     many = found(drive, {"query": "*", "max_hits": 0})["num_hits"]
     numbers = collections.Counter()
     for low in range(0, asked.records, 5_000):
