@@ -24,6 +24,7 @@ use Rattle.node_run.specs.ClientReplies.{IsReplyTo}
 use Rattle.node_run.specs.JobSays.{IsCounted}
 use Rattle.node_run.specs.Meanwhile.{IsBefore}
 use Rattle.node_run.specs.Beginning.{AreBegun}
+use Rattle.node_run.specs.Closing.{is_short_end}
 use Rattle.node_run.specs.Ending.{ends_from, logs_behind}
 use Rattle.node_run.specs.Made.{HasRun, NotBegun, RunMade}
 use Rattle.node_run.specs.Outcome.{end_of, indexed_of, served_of}
@@ -120,6 +121,7 @@ pub record RanTo {S L : Type 0} (count : L → ℕ) (options : RunOptions) (conf
   pub replies : (exit : Core) → GoesFor Nobody from exit → IsSoundCore exit log → end.memory ≡ false → RepliesFrom (IsReplyTo config log exit.history (length core.history) core exit) [] requests end.replies.items
   pub ends : (exit : Core) → GoesFor Nobody from exit → IsSoundCore exit log → end.memory ≡ false →
       EndsAre config log exit.history (length core.history) core exit options.turns count options.indexers 0 (take options.indexers logs) end.logs.items end.ends.items
+  pub whole : end.memory ≡ false → AllByRecursion (λ one. is_short_end one ≡ false) end.ends.items
   pub settled : end.settled ≡ None
 
 -- a run that was begun over this world
@@ -145,6 +147,7 @@ module _ {S K L : Type 0} (told : L → Option Log) (count : L → ℕ) (since :
             run_replies tells told count since options.searchers options.turns read unused requests has.first end has.made log core so begins config is_log configured texts counted tell searchers exit (goes_before from exit on) sound;
         ends = λ exit on sound e. subst (λ n. EndsAre config log exit.history (length core.history) core exit options.turns count n 0 read end.logs.items end.ends.items) many
             (run_ends tells told count since options.searchers options.turns read unused requests has.first end has.made log core so begins config is_log configured texts counted tell searchers exit (goes_before from exit on) sound);
+        whole = λ e. (has.made.worked.whole e).all_ended;
         settled = has.made.worked.settled;
       }
 
@@ -160,6 +163,7 @@ none_ran count options config world log core logs requests end none stands = rec
   stands = subst (λ (k : Keeping). WorldStands k core log) (sym none.same) stands;
   replies = λ exit on sound e. absurd (true_false (sym none.memory ∙ e));
   ends = λ exit on sound e. absurd (true_false (sym none.memory ∙ e));
+  whole = λ e. absurd (true_false (sym none.memory ∙ e));
   settled = none.settled;
 }
 
@@ -176,6 +180,7 @@ module _ {S L : Type 0} (count : L → ℕ) (options : RunOptions) (config : Ind
         stands = ran.stands;
         replies = ran.replies ran.from here sound;
         ends = ran.ends ran.from here sound;
+        whole = ran.whole;
         settled = λ e. subst (λ (o : Option Settled). IsSettled options.settle o core ran.from) (sym ran.settled) (subst (λ (b : Bool). IsSettled b None core ran.from) (sym off) tt);
       }
 
@@ -183,7 +188,7 @@ module _ {S L : Type 0} (count : L → ℕ) (options : RunOptions) (config : Ind
   short_did : end.memory ≡ true → RunReached count options config log core logs requests end
   short_did short =
       let no : end.memory ≡ false → ⊥ = λ e. true_false (sym short ∙ e) in
-      record { exit = ran.from; goes_on = ran.goes_on; stands = ran.stands; replies = λ e. absurd (no e); ends = λ e. absurd (no e); settled = λ e. absurd (no e) }
+      record { exit = ran.from; goes_on = ran.goes_on; stands = ran.stands; replies = λ e. absurd (no e); ends = λ e. absurd (no e); whole = λ e. absurd (no e); settled = λ e. absurd (no e) }
 
   told_as : (result : Result Settled AllocError) (told : Option Settled) (memory : Bool) (exit : Core) → TellsSettled result told memory → memory ≡ false → GoesFor Nobody ran.from exit → SettlesBy result ran.from exit → IsSettled true told core exit
   told_as (Ok settled) told memory exit t e on says = subst (λ (o : Option Settled). IsSettled true o core exit) (sym t.0) (record { from = ran.from; ran = ran.goes_on; goes_on = on; says = says })
@@ -202,6 +207,7 @@ module _ {S L : Type 0} (count : L → ℕ) (options : RunOptions) (config : Ind
         ends = λ e. subst (λ (l : Vec L Global). EndsAre config log s.after.history (length core.history) core s.after options.turns count options.indexers 0 (take options.indexers logs) l.items last.ends.items) (sym was.logs)
             (subst (λ (es : Vec ActorEnd Global). EndsAre config log s.after.history (length core.history) core s.after options.turns count options.indexers 0 (take options.indexers logs) end.logs.items es.items) (sym was.ends)
             (ran.ends s.after s.goes_on sound whole));
+        whole = λ e. subst (λ (es : Vec ActorEnd Global). AllByRecursion (λ one. is_short_end one ≡ false) es.items) (sym was.ends) (ran.whole whole);
         settled = λ e. subst (λ (b : Bool). IsSettled b last.settled core s.after) (sym asked) (told_as was.result last.settled last.memory s.after was.told e s.goes_on s.ended);
       }
 

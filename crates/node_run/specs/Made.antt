@@ -34,7 +34,7 @@ module _ {S K M L : Type 0} (tells : M → Option Log) (told : L → Option Log)
     pub logs_are : end.logs.items ≡ logs_behind (map post_of begun) outcome.indexed.items ++ unused
     pub ends_are : end.ends.items ≡ ends_from 0 (map post_of begun) outcome.indexed.items ++ outcome.ends.items
     pub replies_are : end.memory ≡ false → end.replies.items ≡ replies_by plan.by.items (by_client searchers plan.clients outcome.served.items)
-    pub whole : end.memory ≡ false → IsWhole (map post_of begun) outcome.served.items (by_client searchers plan.clients outcome.served.items)
+    pub whole : end.memory ≡ false → IsWhole end.ends.items outcome.served.items (by_client searchers plan.clients outcome.served.items)
     pub settled : end.settled ≡ None
 
   -- HOW A RUN WENT that was begun: each of these logs is read by an indexer of its own, and the requests are shared out by their clients.

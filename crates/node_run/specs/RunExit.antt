@@ -1,5 +1,6 @@
 -- What a run did, in the words of the index.
 use Rattle.std.specs.Prelude.{◌≡◌, ℕ, suc, Bool, true, false, List, [], ◌∷◌, length, take, Option, Some, None, Ok, ⊤}
+use Rattle.std.specs.List.{AllByRecursion}
 use Rattle.index_config.specs.declared.config.IndexConfig.{IndexConfig}
 use Rattle.meta_journal.specs.declared.entry.Entry.{Entry}
 use Rattle.source_log.specs.Log.{Log, names_of}
@@ -15,6 +16,7 @@ use Rattle.node_run.specs.ClientReplies.{IsReplyTo}
 use Rattle.node_run.specs.Ends.{CollectorEnded, IndexerEnded, WorkerEnded}
 use Rattle.node_run.specs.Settling.{SettlesBy}
 use Rattle.node_run.specs.declared.settling.Settled.{Settled}
+use Rattle.node_run.specs.Closing.{is_short_end}
 use Rattle.node_run.specs.Replies.{RepliesFrom}
 use Rattle.node_run.specs.declared.end_lines.ActorEnd.{ActorEnd}
 use Rattle.node_run.specs.declared.end_lines.ActorEnd.TheVariants as ends
@@ -67,11 +69,13 @@ IsSettled false None core exit = ⊤
 IsSettled false (Some settled) core exit = ⊥
 
 -- WHAT A RUN DID from a core on, over the log that all logs tell that were read: the index went on to a core for which the world stands that comes back.
--- Where there was memory, each request was replied, each actor ended, and settling came to what is told, as the journal says at that core.
+-- Where there was memory, each request was replied, each actor ended, and settling came to what is told, as the journal says at that core; and no actor
+-- ended for want of memory.
 pub record RunReached {S L : Type 0} (count : L → ℕ) (options : RunOptions) (config : IndexConfig) (log : Log) (core : Core) (logs : List L) (requests : List Request) (end : RunEnd S L) : Type 0 where
   pub exit : Core
   pub goes_on : GoesFor Nobody core exit
   pub stands : WorldStands end.world exit log
   pub replies : end.memory ≡ false → RepliesFrom (IsReplyTo config log exit.history (length core.history) core exit) [] requests end.replies.items
   pub ends : end.memory ≡ false → EndsAre config log exit.history (length core.history) core exit options.turns count options.indexers 0 (take options.indexers logs) end.logs.items end.ends.items
+  pub whole : end.memory ≡ false → AllByRecursion (λ one. is_short_end one ≡ false) end.ends.items
   pub settled : end.memory ≡ false → IsSettled options.settle end.settled core exit

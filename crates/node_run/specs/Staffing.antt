@@ -1,5 +1,5 @@
 -- The jobs of a run.
-use Rattle.std.specs.Prelude.{◌≡◌, Bool, true, false, List, [], ◌∷◌, ◌++◌, map}
+use Rattle.std.specs.Prelude.{List, [], ◌∷◌, ◌++◌, map}
 use Rattle.std.specs.declared.alloc.Global.{Global}
 use Rattle.std.specs.declared.vec.Vec.{Vec}
 use Rattle.run_plan.specs.declared.clients.Asking.{Asking}
@@ -29,11 +29,6 @@ module _ {L : Type 0} where
   post_of (begun.Ready reader) = posts.Working
   post_of (begun.Failed log before after) = posts.Failed log before after
   post_of (begun.Short log) = posts.Short log
-
-  abbrev pub is_short : Post L → Bool
-  is_short posts.Working = false
-  is_short (posts.Failed log before after) = false
-  is_short (posts.Short log) = true
 
   -- its log
   abbrev pub log_in : Begun L → L

@@ -2,26 +2,27 @@
 
 ghost use Rattle.std.specs.Prelude.{◌≡◌, ◌+◌, ◌<◌, ◌≤◌, ◌^◌, ◌++◌, ◌∷◌, [], None, false, true, length, map, vec_capacity, vec_len};
 ghost use Rattle.std.specs.List.{AllByRecursion};
-ghost use Rattle.node_run.specs.Closing.{IsWhole, readers_of};
+ghost use Rattle.node_run.specs.Closing.{IsWhole, is_short_collector, is_short_end, is_short_indexer, is_short_worker, readers_of};
 ghost use Rattle.node_run.specs.Ending.{at_work, ends_from, logs_behind};
 ghost use Rattle.node_run.specs.Gathering.{gathered};
 ghost use Rattle.node_run.specs.Replying.{by_client, replies_by};
-ghost use Rattle.node_run.specs.Staffing.{is_short};
 
-use crate::Job;
 use crate::ending::{Ended, ends_of};
 use crate::filling::{append_within, either, push_within};
 use crate::outcome::{Indexed, Outcome, Served};
 use crate::replying::{Noted, replies_of};
 use crate::run_end::RunEnd;
 use crate::staffing::Post;
+use crate::{ActorEnd, Job};
 use clock_time::ScriptClock;
 use index_world::World;
 use indexing_run::IndexerEnd;
 use object_store::ObjectStore;
 use search_api::Reply;
 use source_log::SourceLog;
+use split_collector::CollectorEnd;
 use std::alloc::Global;
+use upkeep_run::WorkerEnd;
 
 /// Nothing was done: there was no memory.
 pub(crate) fn unbegun<S: ObjectStore, L: SourceLog>(
@@ -78,12 +79,60 @@ pub(crate) fn given_back<L: SourceLog>(
     indexed
 }
 
-// Whether there was no memory for the names of an indexer's partitions.
-fn lacks_names<L: SourceLog>(posts: &[Post<L>]) -> bool
-    ensures { result ≡ false → AllByRecursion (λ post. is_short post ≡ false) posts.now }
+fn is_short_indexer(end: &IndexerEnd) -> bool
+    ensures { result ≡ is_short_indexer end.now }
 {
-    for post in posts {
-        if let Post::Short(_) = post {
+    match end {
+        IndexerEnd::CaughtUp => false,
+        IndexerEnd::Refused(_) => false,
+        IndexerEnd::Fault(_) => false,
+        IndexerEnd::SourceFault { .. } => false,
+        IndexerEnd::Turns => false,
+        IndexerEnd::Memory => true,
+    }
+}
+
+fn is_short_worker(end: &WorkerEnd) -> bool
+    ensures { result ≡ is_short_worker end.now }
+{
+    match end {
+        WorkerEnd::Nothing => false,
+        WorkerEnd::Refused(_) => false,
+        WorkerEnd::Fault(_) => false,
+        WorkerEnd::Turns => false,
+        WorkerEnd::Memory => true,
+    }
+}
+
+fn is_short_collector(end: &CollectorEnd) -> bool
+    ensures { result ≡ is_short_collector end.now }
+{
+    match end {
+        CollectorEnd::Nothing => false,
+        CollectorEnd::Fault(_) => false,
+        CollectorEnd::Turns => false,
+        CollectorEnd::Memory => true,
+    }
+}
+
+// Whether an actor ended for want of memory.
+fn is_short_end(end: &ActorEnd) -> bool
+    ensures { result ≡ is_short_end end.now }
+{
+    match end {
+        ActorEnd::Indexer(_, end) => is_short_indexer(end),
+        ActorEnd::Merger(end) => is_short_worker(end),
+        ActorEnd::Deleter(end) => is_short_worker(end),
+        ActorEnd::Collector(end) => is_short_collector(end),
+    }
+}
+
+// Whether one of the actors did.
+fn lack_memory(ends: &[ActorEnd]) -> bool
+    ensures { result ≡ false → AllByRecursion (λ end. is_short_end end ≡ false) ends.now }
+{
+    for end in ends {
+        if is_short_end(end) {
             return true;
         }
     }
@@ -141,10 +190,9 @@ pub(crate) fn closed<'a, S: ObjectStore, L: SourceLog>(
     ensures logs { result.logs.items ≡ logs_behind posts.items outcome.indexed.items ++ unused.items }
     ensures ends { result.ends.items ≡ ends_from 0 posts.items outcome.indexed.items ++ outcome.ends.items }
     ensures replies { result.memory ≡ false → result.replies.items ≡ replies_by askers.entry.by.now (by_client askers.entry.searchers askers.entry.clients outcome.served.items) }
-    ensures whole { result.memory ≡ false → IsWhole posts.items outcome.served.items (by_client askers.entry.searchers askers.entry.clients outcome.served.items) }
+    ensures whole { result.memory ≡ false → IsWhole result.ends.items outcome.served.items (by_client askers.entry.searchers askers.entry.clients outcome.served.items) }
     ensures settled { result.settled ≡ None }
 {
-    let unread = lacks_names(posts.as_slice());
     let Outcome {
         indexed,
         served,
@@ -155,6 +203,7 @@ pub(crate) fn closed<'a, S: ObjectStore, L: SourceLog>(
     let mut ends = ends;
     append_within(&mut logs, unused);
     append_within(&mut ends, others);
+    let lacking = lack_memory(ends.as_slice());
     let noted = all_replies(alloc, askers.by, askers.clients, askers.searchers, served);
     RunEnd {
         world,
@@ -162,6 +211,6 @@ pub(crate) fn closed<'a, S: ObjectStore, L: SourceLog>(
         replies: noted.all,
         ends,
         settled: None,
-        memory: either(unread, noted.short),
+        memory: either(lacking, noted.short),
     }
 }

@@ -28,7 +28,6 @@ pub struct RunEnd<S: ObjectStore, L: SourceLog> {
     pub ends: Vec<ActorEnd>,
     /// Where settling was asked.
     pub settled: Option<Settled>,
-    /// There was no memory to begin, for the names of an indexer's partitions, or for all replies. The lists of replies and ends may then lack
-    /// members.
+    /// There was no memory to begin, for an actor, or for all replies. The lists of replies and ends may then lack members.
     pub memory: bool,
 }

@@ -1,15 +1,14 @@
 use Rattle.std.proofs.Common.{◌≡◌, List, false, subst}
 use Rattle.std.specs.List.{AllByRecursion}
-use Rattle.node_run.specs.Closing.{IsWhole}
-use Rattle.node_run.specs.Staffing.{is_short}
-use Rattle.node_run.specs.declared.staffing.Post.{Post}
+use Rattle.node_run.specs.declared.end_lines.ActorEnd.{ActorEnd}
+use Rattle.node_run.specs.Closing.{IsWhole, is_short_end}
 use Rattle.node_run.proofs.closing.closed.Goals as goal
 
 pub returns-clause-whole : goal.returns-clause-whole
 returns-clause-whole g c e =
     let both = c.either.ensures e in
     record {
-      names_told = subst (λ (posts : List (Post g.row.L.Denot)). AllByRecursion (λ (post : Post g.row.L.Denot). is_short post ≡ false) posts) c.as_slice.ensures.value (c.lacks_names-unread.ensures both.0);
+      all_ended = subst (λ (ends : List ActorEnd). AllByRecursion (λ end. is_short_end end ≡ false) ends) c.as_slice.ensures.value (c.lack_memory-lacking.ensures both.0);
       all_served = c.all_replies-noted.ensures.served both.1;
       all_answered = c.all_replies-noted.ensures.answered both.1;
     }

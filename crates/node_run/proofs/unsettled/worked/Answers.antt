@@ -91,7 +91,7 @@ returns-in-Ok-clause-made g c =
       logs_are = closed.logs ∙ ap (λ (ps : List (Post g.row.L.Denot)). logs_behind ps outcome.indexed.items ++ c.args.unused.items) posts_are;
       ends_are = closed.ends ∙ ap (λ (ps : List (Post g.row.L.Denot)). ends_from 0 ps outcome.indexed.items ++ outcome.ends.items) posts_are;
       replies_are = λ e. closed.replies e ∙ ap (λ by. replies_by by answered) by_is;
-      whole = λ e. subst (λ (ps : List (Post g.row.L.Denot)). IsWhole ps outcome.served.items answered) posts_are (closed.whole e);
+      whole = closed.whole;
       settled = closed.settled;
     })
 
