@@ -15,7 +15,8 @@ use Rattle.node_run.specs.Telling.{MayTell}
 use Rattle.node_run.specs.Turns.{Turns}
 use Rattle.index_world.specs.Saying.{words}
 use Rattle.quick_node.specs.Ending.{ended_status, is_silent, cause_words, last_line, EndsSo}
-use Rattle.quick_node.specs.Reading.{Ending, stopped, ReadsFrom, Reads, raw_lines}
+use Rattle.input_lines.specs.Reading.{raw_lines}
+use Rattle.quick_node.specs.Reading.{Ending, stopped, ReadsFrom, Reads}
 use Rattle.quick_node.specs.Running.{Counts, IsRunEnd, HasRunEnd, HasRun, HasWritten, Runs}
 use Rattle.quick_node.specs.Serve.{CutShort, WroteMost, Before, After, End, by_reading, no_index, opening_failed, read_failed, write_failed, out_of_memory, status_of, error_line, error_of, WroteLine, Wrote, HasEnd, Opens, Answers, Unopened, Lives, BeginsAlong, Along}
 use Rattle.quick_node.specs.declared.error_line.End.{End as Ended}
@@ -71,6 +72,7 @@ run_status (ended.BadLine number) end is = sym (ap status_of is)
 run_status ended.ClientsOver end is = sym (ap status_of is)
 run_status ended.LineOver end is = sym (ap status_of is)
 run_status ended.InputOver end is = sym (ap status_of is)
+run_status ended.RequestsOver end is = absurd is
 run_status ended.ConfigOver end is = absurd is
 run_status (ended.NotOpened error) end is = absurd is
 run_status (ended.NotMade error) end is = absurd is
@@ -86,6 +88,7 @@ run_line (ended.BadLine number) end is = sym (ap error_of is)
 run_line ended.ClientsOver end is = sym (ap error_of is)
 run_line ended.LineOver end is = sym (ap error_of is)
 run_line ended.InputOver end is = sym (ap error_of is)
+run_line ended.RequestsOver end is = absurd is
 run_line ended.ConfigOver end is = absurd is
 run_line (ended.NotOpened error) end is = absurd is
 run_line (ended.NotMade error) end is = absurd is
@@ -93,11 +96,11 @@ run_line ended.ReadFault end is = sym (ap error_of is)
 run_line ended.WriteFault end is = sym (ap error_of is)
 run_line ended.Memory end is = sym (ap error_of is)
 
-fault_line : (a b : ℕ) → last_line (ended.NotOpened (errors.StoreFault a b)) ≡ error_of (opening_failed a b)
+pub fault_line : (a b : ℕ) → last_line (ended.NotOpened (errors.StoreFault a b)) ≡ error_of (opening_failed a b)
 unfolding digits
 fault_line a b = refl
 
-none_line : last_line (ended.NotOpened errors.NoIndex) ≡ error_of no_index
+pub none_line : last_line (ended.NotOpened errors.NoIndex) ≡ error_of no_index
 unfolding digits
 none_line = refl
 
@@ -121,7 +124,7 @@ front_none [] rest e = refl
 front_none (c ∷ cs) rest e = cc
 
 -- of no line nothing is written
-silent : (low high : ℕ) (piece : List ℕ) → WroteLine low high [] piece → piece ≡ []
+pub silent : (low high : ℕ) (piece : List ℕ) → WroteLine low high [] piece → piece ≡ []
 silent low high piece (inl e) = e
 silent low high piece (inr w) = let rest = w.1 in front_none piece rest.0 rest.1
 

@@ -26,7 +26,8 @@ use Rattle.node_run.proofs.CallMoves.{Grows}
 use Rattle.node_run.proofs.Moving.{turn_later, turns_later}
 use Rattle.node_run.proofs.StagedNumbers.{numbers_grow}
 use Rattle.node_run.proofs.LogCounts.{NoneFell, none_rose, turn_counted, turns_counted}
-use Rattle.quick_node.specs.Reading.{fits, falls_or_unknown, fit_if, fit_of, Ending, stopped, ReadsFrom, Reads, raw_lines}
+use Rattle.input_lines.specs.Reading.{raw_lines}
+use Rattle.quick_node.specs.Reading.{fits, falls_or_unknown, fit_if, fit_of, Ending, stopped, ReadsFrom, Reads}
 use Rattle.quick_node.specs.Serve.{Before, After, End, by_reading, no_index, opening_failed, read_failed, write_failed, out_of_memory, HasEnd, IsCalm, IsFresh, Opens, Answers, Unopened, RanShort, Lives, IsShown}
 use Rattle.quick_node.proofs.NodeAtEnd.{opens_moves}
 

@@ -105,6 +105,7 @@ module _ (counts : Counts) (low high last status : ℕ) (read : counts.read_befo
   run_ended ended.ClientsOver by is = limit first behind status read on is
   run_ended ended.LineOver by is = limit first behind status read on is
   run_ended ended.InputOver by is = limit first behind status read on is
+  run_ended ended.RequestsOver by is = absurd by
   run_ended ended.ConfigOver by is = absurd by
   run_ended (ended.NotOpened error) by is = absurd by
   run_ended (ended.NotMade error) by is = absurd by
@@ -139,6 +140,7 @@ line_by read_before read_after before after (ended.BadLine number) by = tt
 line_by read_before read_after before after ended.ClientsOver by = tt
 line_by read_before read_after before after ended.LineOver by = absurd by
 line_by read_before read_after before after ended.InputOver by = absurd by
+line_by read_before read_after before after ended.RequestsOver by = absurd by
 line_by read_before read_after before after ended.ConfigOver by = absurd by
 line_by read_before read_after before after (ended.NotOpened error) by = absurd by
 line_by read_before read_after before after (ended.NotMade error) by = absurd by
@@ -166,6 +168,7 @@ run_earlier read read_before read_after write before after r w (ended.BadLine nu
 run_earlier read read_before read_after write before after r w ended.ClientsOver by = tt
 run_earlier read read_before read_after write before after r w ended.LineOver by = tt
 run_earlier read read_before read_after write before after r w ended.InputOver by = tt
+run_earlier read read_before read_after write before after r w ended.RequestsOver by = absurd by
 run_earlier read read_before read_after write before after r w ended.ConfigOver by = absurd by
 run_earlier read read_before read_after write before after r w (ended.NotOpened error) by = absurd by
 run_earlier read read_before read_after write before after r w (ended.NotMade error) by = absurd by
@@ -244,6 +247,7 @@ module _ (store read written store' read' mid written' status : ℕ) (on : read 
   made_ended ended.ClientsOver by is = absurd by
   made_ended ended.LineOver by is = absurd by
   made_ended ended.InputOver by is = absurd by
+  made_ended ended.RequestsOver by is = absurd by
   made_ended ended.ConfigOver by is =
       record {
         causes = by_none entry exit status on all_on 10 is (λ e. omega (arith, e)) (λ e. omega (arith, e)) (λ e. omega (arith, e));

@@ -67,6 +67,7 @@ module _ (store read written store' mid written' status : â„•) (low : written â‰
   reported ended.ClientsOver by is = absurd by
   reported ended.LineOver by is = absurd by
   reported ended.InputOver by is = absurd by
+  reported ended.RequestsOver by is = absurd by
   reported ended.ConfigOver by is = absurd by
   reported (ended.NotOpened error) by is = not_opened error by is
   reported (ended.NotMade error) by is = absurd by

@@ -39,6 +39,7 @@ ends_on history before moment kept store read mid written exit said (ended.BadLi
 ends_on history before moment kept store read mid written exit said ended.ClientsOver on e = absurd e
 ends_on history before moment kept store read mid written exit said ended.LineOver on e = absurd e
 ends_on history before moment kept store read mid written exit said ended.InputOver on e = absurd e
+ends_on history before moment kept store read mid written exit said ended.RequestsOver on e = absurd e
 ends_on history before moment kept store read mid written exit said ended.ConfigOver on e = e
 ends_on history before moment kept store read mid written exit said (ended.NotOpened error) on e = absurd e
 ends_on history before moment kept store read mid written exit said (ended.NotMade error) on e = e
@@ -88,6 +89,7 @@ module _ (history : List Entry) (before : Before) (moment : ℕ) (after : After)
   made_by ended.ClientsOver z line e = absurd e
   made_by ended.LineOver z line e = absurd e
   made_by ended.InputOver z line e = absurd e
+  made_by ended.RequestsOver z line e = absurd e
   made_by ended.ConfigOver z line e = absurd (omega (arith, z))
   made_by (ended.NotOpened error) z line e = absurd e
   made_by (ended.NotMade error) z line e = absurd (not_made_0 error z)
@@ -144,6 +146,7 @@ module _ (history : List Entry) (before : Before) (moment : ℕ) (after : After)
     exact_by ended.ClientsOver e = absurd e
     exact_by ended.LineOver e = absurd e
     exact_by ended.InputOver e = absurd e
+    exact_by ended.RequestsOver e = absurd e
     exact_by ended.ConfigOver e = inl (sym (long_status e.0))
     exact_by (ended.NotOpened error) e = absurd e
     exact_by (ended.NotMade error) e = unmade_status error e.0 e.1

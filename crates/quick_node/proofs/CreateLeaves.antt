@@ -50,6 +50,7 @@ says_by low written said (ended.BadLine number) store store' read read' s = absu
 says_by low written said ended.ClientsOver store store' read read' s = absurd s
 says_by low written said ended.LineOver store store' read read' s = absurd s
 says_by low written said ended.InputOver store store' read read' s = absurd s
+says_by low written said ended.RequestsOver store store' read read' s = absurd s
 says_by low written said ended.ConfigOver store store' read read' s = absurd s
 says_by low written said (ended.NotOpened error) store store' read read' s = absurd s
 says_by low written said (ended.NotMade error) store store' read read' s = absurd s
@@ -91,6 +92,7 @@ module _ (history : List Entry) (before : Before) (moment : ℕ) (i : IsIndexOf 
   said_so kept exit store read low written said ended.ClientsOver short made at says = absurd says
   said_so kept exit store read low written said ended.LineOver short made at says = absurd says
   said_so kept exit store read low written said ended.InputOver short made at says = absurd says
+  said_so kept exit store read low written said ended.RequestsOver short made at says = absurd says
   said_so kept exit store read low written said ended.ConfigOver short made at says = absurd says
   said_so kept exit store read low written said (ended.NotOpened error) short made at says = absurd says
   said_so kept exit store read low written said (ended.NotMade error) short made at says = absurd says

@@ -139,7 +139,7 @@ module _ {L : Type 0} (count : L → ℕ) (since : L → L → Type 0) (itself :
 
 -- ---- the clause
 
-unread_front : (entries : List Entry) (standing : Option Entry) → IsPrefixOf entries (with_unread entries standing)
+pub unread_front : (entries : List Entry) (standing : Option Entry) → IsPrefixOf entries (with_unread entries standing)
 unread_front entries None = ([], sym (append-nil entries))
 unread_front entries (Some entry) = (entry ∷ [], refl)
 

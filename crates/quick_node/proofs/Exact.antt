@@ -15,7 +15,7 @@ use Rattle.quick_node.specs.Serve.{Before, After, End, by_reading, no_index, ope
 use Rattle.quick_node.proofs.InOneWay.{reads_in_one_way}
 
 -- a count that stood still made nothing fail
-still_not_failed : (before after : ℕ) → StoodStill before after → Rose before after → ⊥
+pub still_not_failed : (before after : ℕ) → StoodStill before after → Rose before after → ⊥
 still_not_failed before after s rose = omega (arith, s.0, s.1, rose)
 
 -- ---- the count of the store
@@ -122,26 +122,24 @@ opening_found fate core last did some =
 
 -- ---- the status
 
-module _ (history : List Entry) (before : Before) (after : After) (fresh last : Node) (is : IsFresh before history fresh) (shown : IsShown after last) (calm : IsCalm before after) where
-  fresh_count : fresh.core.store_faults ≡ before.store_faults
-  fresh_count = ap (λ n. n.core.store_faults) is.is
-
-  not_failed : (fault : Fault) → Opens fresh (Err (not_read (faulted fault))) last → ⊥
-  not_failed fault o =
+module _ (history : List Entry) (before : Before) (fresh last : Node) (is : IsFresh before history fresh) where
+  pub not_faulted : (after : After) → last.core.store_faults ≡ after.store_faults → IsCalm before after → (fault : Fault) → Opens fresh (Err (not_read (faulted fault))) last → ⊥
+  not_faulted after count calm fault o =
       opening_rose o.fate fresh.core last.core fault (o.did ∙ ap (gives (Err (not_read (faulted fault)))) (sym (ap (λ n. n.core) o.is)))
-      (fresh_count ∙ calm.store.0 ∙ sym shown.store_count)
-      (subst (λ n. n < last_count) (sym shown.store_count) calm.store.1)
+      (ap (λ n. n.core.store_faults) is.is ∙ calm.store.0 ∙ sym count)
+      (subst (λ n. n < last_count) (sym count) calm.store.1)
 
-  found : 0 < length history → Opens fresh (Err calls.no_index) last → ⊥
-  found some o = opening_found o.fate fresh.core o.core o.did (subst (λ h. 0 < length h) (sym (ap (λ n. n.core.history) is.is)) some)
+  pub not_none : 0 < length history → Opens fresh (Err calls.no_index) last → ⊥
+  not_none some o = opening_found o.fate fresh.core o.core o.did (subst (λ h. 0 < length h) (sym (ap (λ n. n.core.history) is.is)) some)
 
+module _ (history : List Entry) (before : Before) (after : After) (fresh last : Node) (is : IsFresh before history fresh) (shown : IsShown after last) (calm : IsCalm before after) where
   pub exact_status : (end : End) (lines : List Line) (outcomes : List Outcome) → HasEnd before after lines end → Lives before end fresh lines outcomes last →
       0 < length history → (read : List Line) (ending : Ending) → ending ≢ stopped → Reads (length before.log_faults) before.input read ending →
       (status_of end ≡ reading_status ending) ⊎ (status_of end ≡ 11)
   exact_status (by_reading e) lines outcomes ends lives some read ending live reads =
       inl (ap reading_status (reads_in_one_way (length before.log_faults) before.input lines read e ending ends.0 live ends.1 reads).1)
-  exact_status no_index lines outcomes ends lives some read ending live reads = absurd (found some lives.opens)
-  exact_status (opening_failed low high) lines outcomes ends lives some read ending live reads = absurd (not_failed (store_fault low high) lives.opens)
+  exact_status no_index lines outcomes ends lives some read ending live reads = absurd (not_none history before fresh last is some lives.opens)
+  exact_status (opening_failed low high) lines outcomes ends lives some read ending live reads = absurd (not_faulted history before fresh last is after shown.store_count calm (store_fault low high) lives.opens)
   exact_status read_failed lines outcomes ends lives some read ending live reads =
       absurd (still_not_failed before.read_faults after.read_faults calm.input ends.1)
   exact_status write_failed lines outcomes ends lives some read ending live reads =

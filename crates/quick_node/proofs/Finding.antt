@@ -30,7 +30,7 @@ if_told (Some text) P h = h text refl
 -- ---- the last line
 
 -- an end without a last line leaves what was written
-still : (end : Ended) (held : List ℕ) (content : Option (List ℕ)) (mid last status : ℕ) → last_line end ≡ [] → EndsSo end held content mid last status → content ≡ Some held
+pub still : (end : Ended) (held : List ℕ) (content : Option (List ℕ)) (mid last status : ℕ) → last_line end ≡ [] → EndsSo end held content mid last status → content ≡ Some held
 still end held content mid last status silence w = w.written ∙ ap Some (ap (λ (t : List ℕ). held ++ t) (none w.wrote) ∙ append-nil held)
   where
     none : ((status ≡ ended_status end) × WroteLine mid last (last_line end) w.text) ⊎ ((status ≡ 11) × (w.text ≡ [])) → w.text ≡ []
@@ -59,6 +59,7 @@ run_finds Line before after counts (ended.BadLine number) by found = found
 run_finds Line before after counts ended.ClientsOver by found = found
 run_finds Line before after counts ended.LineOver by found = found
 run_finds Line before after counts ended.InputOver by found = found
+run_finds Line before after counts ended.RequestsOver by found = absurd by
 run_finds Line before after counts ended.ConfigOver by found = absurd by
 run_finds Line before after counts (ended.NotOpened error) by found = absurd by
 run_finds Line before after counts (ended.NotMade error) by found = absurd by
@@ -86,6 +87,7 @@ written_finds asked Line before after (ended.BadLine number) k w = absurd k
 written_finds asked Line before after ended.ClientsOver k w = absurd k
 written_finds asked Line before after ended.LineOver k w = absurd k
 written_finds asked Line before after ended.InputOver k w = absurd k
+written_finds asked Line before after ended.RequestsOver k w = absurd k
 written_finds asked Line before after ended.ConfigOver k w = absurd k
 written_finds asked Line before after (ended.NotOpened error) k w = absurd k
 written_finds asked Line before after (ended.NotMade error) k w = absurd k
@@ -136,6 +138,7 @@ made_finds clock Line before after low high said (ended.BadLine number) s m = ab
 made_finds clock Line before after low high said ended.ClientsOver s m = absurd s
 made_finds clock Line before after low high said ended.LineOver s m = absurd s
 made_finds clock Line before after low high said ended.InputOver s m = absurd s
+made_finds clock Line before after low high said ended.RequestsOver s m = absurd s
 made_finds clock Line before after low high said ended.ConfigOver s m = absurd s
 made_finds clock Line before after low high said (ended.NotOpened error) s m = absurd s
 made_finds clock Line before after low high said (ended.NotMade error) s m = absurd s
@@ -179,6 +182,7 @@ module _ (before : Outside) (store : Option State) (count : ℕ) (input : Option
   report_ends asked ended.ClientsOver writes f = absurd f
   report_ends asked ended.LineOver writes f = absurd f
   report_ends asked ended.InputOver writes f = absurd f
+  report_ends asked ended.RequestsOver writes f = absurd f
   report_ends asked ended.ConfigOver writes f = absurd f
   report_ends asked (ended.NotOpened error) writes f = none_on error writes f
   report_ends asked (ended.NotMade error) writes f = absurd f
@@ -207,6 +211,7 @@ module _ (before : Outside) (store : Option State) (count : ℕ) (input : Option
   create_ends clock ended.ClientsOver writes f = absurd f
   create_ends clock ended.LineOver writes f = absurd f
   create_ends clock ended.InputOver writes f = absurd f
+  create_ends clock ended.RequestsOver writes f = absurd f
   create_ends clock ended.ConfigOver writes f = f
   create_ends clock (ended.NotOpened error) writes f = absurd f
   create_ends clock (ended.NotMade error) writes f =
@@ -218,9 +223,10 @@ module _ (before : Outside) (store : Option State) (count : ℕ) (input : Option
 
 -- ---- the words found no memory
 
-pub unread_opening : (given : List (List ℕ)) (clock : Option ℕ) (before after : Outside) (status : ℕ) → StoreStays before after → InputStays before after → (status ≡ ended_status ended.Memory) ⊎ (status ≡ 11) → Opening given clock before after status
-unread_opening given clock before after status store input is = record {
+pub unread_opening : (readers : ℕ) (given : List (List ℕ)) (clock : Option ℕ) (before after : Outside) (status : ℕ) → StoreStays before after → InputStays before after → (status ≡ ended_status ended.Memory) ⊎ (status ≡ 11) → Opening readers given clock before after status
+unread_opening readers given clock before after status store input is = record {
   drive = λ drive. record { end = ended.Memory; status_is = is; says = inr (store, input) };
+  run = λ run. record { end = ended.Memory; status_is = is; says = inr (store, input) };
   create = λ create. record { end = ended.Memory; status_is = is; says = store };
   report = λ asked asks. record { end = ended.Memory; status_is = is; says = inr (store, input) };
 }

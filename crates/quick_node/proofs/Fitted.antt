@@ -7,7 +7,8 @@ use Rattle.node_run.specs.declared.drive.Accepts.{Accepts}
 use Rattle.node_run.specs.declared.drive.Accepts.TheVariants as accepts
 use Rattle.node_run.specs.Node.{Node, Line, At, Assign, StepIndexer, RestartIndexer, RestartClient, StepMerger, RestartMerger, StepDeleter, RestartDeleter, StepCollector, RestartCollector, RestartNode, Open, StepClient}
 use Rattle.node_run.specs.Standing.{accepts_of, accepts_client}
-use Rattle.quick_node.specs.Reading.{Fit, fits, falls_or_unknown, too_many_clients, fit_if, fit_of, client_fit, names_in, last_moment, max_clients}
+use Rattle.input_lines.specs.Reading.{max_clients}
+use Rattle.quick_node.specs.Reading.{Fit, fits, falls_or_unknown, too_many_clients, fit_if, fit_of, client_fit, names_in, last_moment}
 use Rattle.quick_node.specs.Running.{HasAnswered}
 
 abbrev pub accepts_as : Fit → Accepts

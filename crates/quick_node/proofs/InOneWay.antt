@@ -4,7 +4,8 @@ use Rattle.std.specs.Prelude.{◌≢◌}
 use Rattle.node_run.specs.Lines.{Spells}
 use Rattle.node_run.specs.Node.{Line}
 use Rattle.node_run.proofs.Spelling.{spells_one}
-use Rattle.quick_node.specs.Reading.{Fit, fits, falls_or_unknown, too_many_clients, fit_of, Ending, all_read, bad_line, clients_over, line_over, input_over, stopped, Within, IsBad, EndsAt, ReadsFrom, Reads, raw_lines}
+use Rattle.input_lines.specs.Reading.{Within, raw_lines}
+use Rattle.quick_node.specs.Reading.{Fit, fits, falls_or_unknown, too_many_clients, fit_of, Ending, all_read, bad_line, clients_over, line_over, input_over, stopped, IsBad, EndsAt, ReadsFrom, Reads}
 use Rattle.quick_node.specs.Serve.{IsPrefixOf}
 
 fits_not_falls : fits ≡ falls_or_unknown → ⊥

@@ -1,4 +1,4 @@
-pub mod Feeding
+pub mod SaidLines
 pub mod Written
 pub mod Opened
 mod TaskCauses
@@ -60,3 +60,5 @@ mod CausedReports
 mod Unread
 mod Finding
 mod Quiet
+pub mod RunClause
+pub mod RunFound

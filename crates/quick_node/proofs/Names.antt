@@ -1,7 +1,6 @@
 -- Behind lines that were answered the node's clock and its clients are those that the lines name.
 use Rattle.std.proofs.Common.{◌≡◌, ℕ, suc, Bool, true, false, List, [], ◌∷◌, ◌++◌, length, map, refl, sym, ap, ◌∙◌, subst}
 use Rattle.std.proofs.lemmas.List.{length-map}
-use Rattle.std.proofs.lemmas.Slice.Eq.{bytes_eq-Decides}
 use Rattle.std.specs.List.{list_any}
 use Rattle.std.specs.Prelude.{Some, None, Result, Ok, Err, ⊤, ◌||◌, if◌then◌else◌, bytes_eq}
 use Rattle.index_world.specs.Calls.{faulted, no_memory, Unread, not_read, loaded}
@@ -17,27 +16,11 @@ use Rattle.node_run.specs.Standing.{is_known}
 use Rattle.node_run.proofs.Names.{named_name, kept_by_request}
 use Rattle.node_run.proofs.Parts.{searched_name}
 use Rattle.quick_node.specs.Running.{AreNamed}
-use Rattle.quick_node.specs.Reading.{with_client_name, names_in, last_moment}
+use Rattle.input_lines.specs.Reading.{with_client_name}
+use Rattle.input_lines.proofs.Names.{same-true, named_with, length_named}
+use Rattle.quick_node.specs.Reading.{names_in, last_moment}
 
 -- ---- names
-
-same-true : (a b : List ℕ) → bytes_eq a b ≡ true → a ≡ b
-same-true a b = (bytes_eq-Decides a b).0
-
-same-refl : (a : List ℕ) → bytes_eq a a ≡ true
-same-refl a = (bytes_eq-Decides a a).1 refl
-
-true_is_false : true ≡ false → ⊥
-true_is_false e = cc
-
-same-turned : (a b : List ℕ) → bytes_eq a b ≡ bytes_eq b a
-same-turned a b = by (bytes_eq a b) (bytes_eq b a) refl refl
-  where
-    by : (x y : Bool) → bytes_eq a b ≡ x → bytes_eq b a ≡ y → x ≡ y
-    by true true e f = refl
-    by true false e f = absurd (true_is_false (sym (same-refl a) ∙ ap (λ n. bytes_eq n a) (same-true a b e) ∙ f))
-    by false true e f = absurd (true_is_false (sym (same-refl b) ∙ ap (λ n. bytes_eq n b) (same-true b a f) ∙ e))
-    by false false e f = refl
 
 or_same : (a b : Bool) → (a || (a || b)) ≡ (a || b)
 or_same true b = refl
@@ -73,22 +56,6 @@ length_with client (other ∷ clients) = by (bytes_eq other.name client.name) re
     by true e k f ih = rw e refl
     by false e true f ih = rw (e, f) (ap suc (ih ∙ ap (λ c. if c then length clients else suc (length clients)) f))
     by false e false f ih = rw (e, f) (ap suc (ih ∙ ap (λ c. if c then length clients else suc (length clients)) f))
-
-named_with : (q name : List ℕ) (names : List (List ℕ)) → list_any (bytes_eq q) (with_client_name name names) ≡ (bytes_eq name q || list_any (bytes_eq q) names)
-named_with q name names = by (list_any (bytes_eq name) names) refl (bytes_eq name q) refl
-  where
-    by : (k : Bool) → list_any (bytes_eq name) names ≡ k → (b : Bool) → bytes_eq name q ≡ b →
-        list_any (bytes_eq q) (with_client_name name names) ≡ (bytes_eq name q || list_any (bytes_eq q) names)
-    by true e true f = rw (e, f) (ap (λ n. list_any (bytes_eq n) names) (sym (same-true name q f)) ∙ e)
-    by true e false f = rw (e, f) refl
-    by false e b f = ap (λ k. list_any (bytes_eq q) (if k then names else name ∷ names)) e ∙ ap (λ x. x || list_any (bytes_eq q) names) (same-turned q name)
-
-length_named : (name : List ℕ) (names : List (List ℕ)) → length (with_client_name name names) ≡ (if list_any (bytes_eq name) names then length names else suc (length names))
-length_named name names = by (list_any (bytes_eq name) names) refl
-  where
-    by : (k : Bool) → list_any (bytes_eq name) names ≡ k → length (with_client_name name names) ≡ (if list_any (bytes_eq name) names then length names else suc (length names))
-    by true e = rw e refl
-    by false e = rw e refl
 
 module _ (names : List (List ℕ)) (clients : List Client) (are : AreNamed names clients) (name : List ℕ) where
   -- a client of this name was kept

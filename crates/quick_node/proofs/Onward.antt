@@ -4,10 +4,11 @@ use Rattle.std.proofs.lemmas.List.{append-nil}
 use Rattle.node_run.specs.Lines.{Spells}
 use Rattle.node_run.specs.Node.{Line}
 use Rattle.std.specs.Prelude.{Some}
-use Rattle.quick_node.specs.Pieces.{IsUnbroken}
+use Rattle.input_lines.specs.Pieces.{IsUnbroken}
 use Rattle.quick_node.specs.Running.{ReadsTo, HasRead}
-use Rattle.quick_node.specs.Reading.{raw_lines, fits, fit_of, Ending, all_read, stopped, end_of, Within, EndsAt, ReadsFrom, Reads, next_feed, FailsBehind}
-use Rattle.quick_node.proofs.Feeding.{before_feed}
+use Rattle.input_lines.specs.Reading.{raw_lines, end_of, Within}
+use Rattle.quick_node.specs.Reading.{fits, fit_of, Ending, all_read, stopped, EndsAt, ReadsFrom, Reads, next_feed, FailsBehind}
+use Rattle.input_lines.proofs.Feeding.{before_feed}
 
 module _ (readers total : ℕ) where
   -- the reading ends there

@@ -91,6 +91,7 @@ module _ (old : State) (objects : List (List ℕ)) (quiet : old.late ≡ []) (st
       found_by_drive Line ended.ClientsOver f is = index_tells before.store 10 tells f is (λ e. omega (arith, e)) (λ e. omega (arith, e))
       found_by_drive Line ended.LineOver f is = index_tells before.store 10 tells f is (λ e. omega (arith, e)) (λ e. omega (arith, e))
       found_by_drive Line ended.InputOver f is = index_tells before.store 10 tells f is (λ e. omega (arith, e)) (λ e. omega (arith, e))
+      found_by_drive Line ended.RequestsOver f is = absurd f
       found_by_drive Line ended.ConfigOver f is = absurd f
       found_by_drive Line (ended.NotOpened error) f is = unopened error f.why is
       found_by_drive Line (ended.NotMade error) f is = absurd f
@@ -110,6 +111,7 @@ module _ (old : State) (objects : List (List ℕ)) (quiet : old.late ≡ []) (st
       found_by_report asked Line ended.ClientsOver f is = absurd f
       found_by_report asked Line ended.LineOver f is = absurd f
       found_by_report asked Line ended.InputOver f is = absurd f
+      found_by_report asked Line ended.RequestsOver f is = absurd f
       found_by_report asked Line ended.ConfigOver f is = absurd f
       found_by_report asked Line (ended.NotOpened error) f is = unopened error f.why is
       found_by_report asked Line (ended.NotMade error) f is = absurd f

@@ -31,6 +31,7 @@ ends_on asked history before store mid written exit said (ended.BadLine number) 
 ends_on asked history before store mid written exit said ended.ClientsOver on e = absurd e
 ends_on asked history before store mid written exit said ended.LineOver on e = absurd e
 ends_on asked history before store mid written exit said ended.InputOver on e = absurd e
+ends_on asked history before store mid written exit said ended.RequestsOver on e = absurd e
 ends_on asked history before store mid written exit said ended.ConfigOver on e = absurd e
 ends_on asked history before store mid written exit said (ended.NotOpened error) on e = e
 ends_on asked history before store mid written exit said (ended.NotMade error) on e = absurd e
@@ -85,6 +86,7 @@ module _ (asked : Report) (history : List Entry) (before : Before) (after : Afte
   said_by ended.ClientsOver z line e = absurd e
   said_by ended.LineOver z line e = absurd e
   said_by ended.InputOver z line e = absurd e
+  said_by ended.RequestsOver z line e = absurd e
   said_by ended.ConfigOver z line e = absurd e
   said_by (ended.NotOpened error) z line e = absurd (not_opened_0 error z)
   said_by (ended.NotMade error) z line e = absurd e
@@ -128,6 +130,7 @@ module _ (asked : Report) (history : List Entry) (before : Before) (after : Afte
     exact_by ended.ClientsOver e some = absurd e
     exact_by ended.LineOver e some = absurd e
     exact_by ended.InputOver e some = absurd e
+    exact_by ended.RequestsOver e some = absurd e
     exact_by ended.ConfigOver e some = absurd e
     exact_by (ended.NotOpened error) e some = inr (unopened_some error e.0 some)
     exact_by (ended.NotMade error) e some = absurd e
@@ -142,6 +145,7 @@ module _ (asked : Report) (history : List Entry) (before : Before) (after : Afte
     empty_by ended.ClientsOver e none = absurd e
     empty_by ended.LineOver e none = absurd e
     empty_by ended.InputOver e none = absurd e
+    empty_by ended.RequestsOver e none = absurd e
     empty_by ended.ConfigOver e none = absurd e
     empty_by (ended.NotOpened error) e none = unopened_none error e.0
     empty_by (ended.NotMade error) e none = absurd e

@@ -63,6 +63,7 @@ says_by text low high said (ended.BadLine number) store store' s = absurd s
 says_by text low high said ended.ClientsOver store store' s = absurd s
 says_by text low high said ended.LineOver store store' s = absurd s
 says_by text low high said ended.InputOver store store' s = absurd s
+says_by text low high said ended.RequestsOver store store' s = absurd s
 says_by text low high said ended.ConfigOver store store' s = absurd s
 says_by text low high said (ended.NotOpened error) store store' s = absurd s
 says_by text low high said (ended.NotMade error) store store' s = absurd s
@@ -97,6 +98,7 @@ module _ (asked : Report) (history : List Entry) (before : Before) (i : IsIndexO
     said_so store low written said ended.ClientsOver at s = absurd s
     said_so store low written said ended.LineOver at s = absurd s
     said_so store low written said ended.InputOver at s = absurd s
+    said_so store low written said ended.RequestsOver at s = absurd s
     said_so store low written said ended.ConfigOver at s = absurd s
     said_so store low written said (ended.NotOpened error) at s = absurd s
     said_so store low written said (ended.NotMade error) at s = absurd s

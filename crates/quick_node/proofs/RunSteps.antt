@@ -17,10 +17,11 @@ use Rattle.node_run.proofs.Moving.{turns_go_on}
 use Rattle.node_run.proofs.LogCounts.{NoneFell, turn_counted}
 use Rattle.quick_node.specs.declared.error_line.End.{End as Ended}
 use Rattle.quick_node.specs.declared.error_line.End.TheVariants as ended
-use Rattle.quick_node.specs.declared.lines.Next.{Next}
-use Rattle.quick_node.specs.declared.lines.Next.TheVariants as next
-use Rattle.quick_node.specs.Pieces.{ComesLine, Comes}
-use Rattle.quick_node.specs.Reading.{raw_lines, Fit, fits, falls_or_unknown, too_many_clients, fit_if, fit_of, with_client_name, names_in, last_moment, max_clients, Ending, all_read, bad_line, clients_over, line_over, input_over, stopped, IsBad, Reads}
+use Rattle.input_lines.specs.declared.lines.Next.{Next}
+use Rattle.input_lines.specs.declared.lines.Next.TheVariants as next
+use Rattle.input_lines.specs.Pieces.{ComesLine, Comes}
+use Rattle.input_lines.specs.Reading.{raw_lines, with_client_name, max_clients}
+use Rattle.quick_node.specs.Reading.{Fit, fits, falls_or_unknown, too_many_clients, fit_if, fit_of, names_in, last_moment, Ending, all_read, bad_line, clients_over, line_over, input_over, stopped, IsBad, Reads}
 use Rattle.quick_node.specs.Running.{AreNamed, HasAnswered, HasRead, IsGoing, Does, IsNotTaken, WroteFront, EndsLine, TakesLine, IsRunEnd, Counts, Runs, done_behind, GoesOrEnds, RunsOrShort}
 use Rattle.quick_node.specs.Collects.{LineCollects}
 use Rattle.quick_node.specs.Once.{Reaches}
@@ -335,6 +336,7 @@ module _ (Stands : Node → Type 0) (readers : ℕ) (input : List ℕ) (begun : 
       ends_with ended.ClientsOver t = ends_many t.0 t.1 t.2
       ends_with ended.LineOver t = absurd t
       ends_with ended.InputOver t = absurd t
+      ends_with ended.RequestsOver t = absurd t
       ends_with ended.ConfigOver t = absurd t
       ends_with (ended.NotOpened error) t = absurd t
       ends_with (ended.NotMade error) t = absurd t

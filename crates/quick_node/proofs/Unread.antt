@@ -2,6 +2,7 @@
 use Rattle.std.proofs.Common.{◌≡◌, ◌⊎◌, ℕ, ◌≤◌, List, [], ◌++◌, map, sum, refl, sym, ap, ◌∙◌, subst, inl, inr, append-nil, arith}
 use Rattle.std.specs.List.{AllZip}
 use Rattle.std.specs.Prelude.{Option, Some, None, min}
+use Rattle.command_words.specs.declared.run.RunOptions.{RunOptions}
 use Rattle.meta_journal.specs.declared.entry.Entry.{Entry}
 use Rattle.object_store.specs.Store.{State, HasLanded, WhereTold}
 use Rattle.source_log.specs.Log.{Log}
@@ -14,6 +15,7 @@ use Rattle.quick_node.specs.Causes.{IsStatusOf}
 use Rattle.quick_node.specs.Creating.{Creates, CreatesAt, CreatesUpTo, counts_at}
 use Rattle.quick_node.specs.Ending.{EndsSo, ended_status, last_line}
 use Rattle.quick_node.specs.Reporting.{Reports, ReportsUpTo}
+use Rattle.quick_node.specs.Runs.{Runs}
 use Rattle.quick_node.specs.Serve.{Before, After, Shows, ShowsAfter, EntersAs, Drives, WroteLine, WroteWords}
 use Rattle.quick_node.specs.declared.error_line.End.TheVariants as ended
 use Rattle.quick_node.specs.declared.reporting.Report.{Report}
@@ -23,6 +25,7 @@ use Rattle.quick_node.proofs.Finding.{some_moment}
 use Rattle.quick_node.proofs.CreateClause.{created_after}
 use Rattle.quick_node.proofs.LongerLog.{index_longer}
 use Rattle.quick_node.proofs.ReportClause.{reported_after}
+use Rattle.quick_node.proofs.RunClause.{memory_silent, run_returned, runs_unread}
 use Rattle.quick_node.proofs.Reached.{landed_stand}
 use Rattle.quick_node.proofs.BeforeLastLine.{met_unread, silent_short}
 
@@ -33,12 +36,13 @@ is_short status (inl is) = is
 is_short status (inr is) = is
 
 -- each command may end with it, and so may words that name none
-pub short_status : (given : List (List ℕ)) (status : ℕ) → status ≡ 11 → IsStatusOf given status
-short_status given status is = record {
+pub short_status : (readers : ℕ) (given : List (List ℕ)) (status : ℕ) → status ≡ 11 → IsStatusOf readers given status
+short_status readers given status is = record {
   drive = λ drive. inr (inr (inr (inr (inr (inr (inr (inr (inl is))))))));
+  run = λ run. inr (inr (inr (inr (inr (inr (inr (inr (inl is))))))));
   create = λ create. inr (inr (inr (inr (inr (inr (inr (inr (inl is))))))));
   report = λ asked asks. inr (inr (inr (inr (inr (inl is)))));
-  other = λ other none splits describe. inr (inl is);
+  other = λ other run none splits describe. inr (inl is);
 }
 
 -- nothing is written
@@ -85,6 +89,16 @@ module _ {S L R W : Type 0} (told : S → Option State) (count : S → ℕ) (log
       (ap (λ n. n.core.store_faults) b.is.is ∙ sym shows.store_faults ∙ sym reported) lasts
       (gives (log_counts b.fresh.indexers) (sym counts)) sums refl (omega arith) low counted
       (writes (before.written ++ []) nothing)
+
+  pub unread_runs : (asked : RunOptions) → (after : After) × ShowsAfter told count log_count since left read_count taken write_count store' store_faults log_faults logs input output' after
+      × Runs asked history before after status × GivesLogs log_count since logs lasts after.log_faults
+  unread_runs asked =
+      let b = begins history before enters in
+      let w = writes before.written shows.streams_show.written in
+      let none = memory_silent (write_count output) (write_count output') status w.text w.wrote in
+      run_returned told count log_count since left read_count taken write_count (λ after. Runs asked history before after status) store' store_faults log_faults logs lasts input output' before.kept (before.written ++ w.text)
+      kept (ap count same ∙ sym reported) later sums w.written
+      (runs_unread asked history before _ b.fresh b.fresh.core b.is enters.is_log (ap (λ n. n.core.store_faults) b.is.is ∙ sym shows.store_faults ∙ sym reported) b.world w.text refl status none.0 refl none.1)
 
   pub unread_creates : (clock : Option ℕ) → (after : After) × ShowsAfter told count log_count since left read_count taken write_count store' store_faults log_faults logs input output' after
       × CreatesAt clock history before after status × GivesLogs log_count since logs lasts after.log_faults

@@ -4,6 +4,7 @@ use Rattle.byte_fields.specs.Causes.{Rose}
 use Rattle.quick_node.specs.Running.{Counts}
 use Rattle.quick_node.specs.Creating.{IsCreate}
 use Rattle.quick_node.specs.Reporting.{IsSplits, IsDescribe, AsksFor}
+use Rattle.quick_node.specs.Runs.{AsksRun}
 use Rattle.quick_node.specs.Serve.{IsDrive}
 use Rattle.quick_node.specs.declared.error_line.End.{End as Ended}
 use Rattle.quick_node.specs.declared.error_line.End.TheVariants as ended
@@ -32,7 +33,7 @@ abbrev pub IsOneOf : ℕ → List ℕ → Type 0
 IsOneOf status [] = ⊥
 IsOneOf status (s ∷ more) = (status ≡ s) ⊎ IsOneOf status more
 
--- the statuses of a schedule
+-- the statuses of a schedule, and of a run
 abbrev pub drive_statuses : List ℕ
 drive_statuses = 0 ∷ 3 ∷ 4 ∷ 5 ∷ 6 ∷ 7 ∷ 8 ∷ 10 ∷ 11 ∷ []
 
@@ -48,14 +49,16 @@ report_statuses = 0 ∷ 4 ∷ 6 ∷ 7 ∷ 8 ∷ 11 ∷ []
 abbrev pub other_statuses : List ℕ
 other_statuses = 1 ∷ 11 ∷ []
 
--- Each command has its own statuses: words that are none end with 1, or without memory with 11, and no command ends with 1.
-pub record IsStatusOf (given : List (List ℕ)) (status : ℕ) : Type 0 where
+-- Each command has its own statuses: words that are none end with 1, or without memory with 11, and no command ends with 1. A run of more
+-- indexers than there are readers of the logs is none.
+pub record IsStatusOf (readers : ℕ) (given : List (List ℕ)) (status : ℕ) : Type 0 where
   pub drive : IsDrive given → IsOneOf status drive_statuses
+  pub run : AsksRun readers given → IsOneOf status drive_statuses
   pub create : IsCreate given → IsOneOf status create_statuses
   pub report : (asked : Report) → AsksFor asked given → IsOneOf status report_statuses
-  pub other : (IsDrive given → ⊥) → (IsCreate given → ⊥) → (IsSplits given → ⊥) → (IsDescribe given → ⊥) → IsOneOf status other_statuses
+  pub other : (IsDrive given → ⊥) → (AsksRun readers given → ⊥) → (IsCreate given → ⊥) → (IsSplits given → ⊥) → (IsDescribe given → ⊥) → IsOneOf status other_statuses
 
--- a schedule ended with this status
+-- a schedule ended with this status, or a run
 pub record DriveCauses (before after : Faults) (status : ℕ) : Type 0 where
   pub causes : HasCauses before after status
   pub known : IsOneOf status drive_statuses
@@ -80,6 +83,7 @@ EndsLineBy before after (ended.BadLine number) = ⊤
 EndsLineBy before after ended.ClientsOver = ⊤
 EndsLineBy before after ended.LineOver = ⊥
 EndsLineBy before after ended.InputOver = ⊥
+EndsLineBy before after ended.RequestsOver = ⊥
 EndsLineBy before after ended.ConfigOver = ⊥
 EndsLineBy before after (ended.NotOpened error) = ⊥
 EndsLineBy before after (ended.NotMade error) = ⊥
@@ -95,6 +99,7 @@ EndsRunBy counts (ended.BadLine number) = ⊤
 EndsRunBy counts ended.ClientsOver = ⊤
 EndsRunBy counts ended.LineOver = ⊤
 EndsRunBy counts ended.InputOver = ⊤
+EndsRunBy counts ended.RequestsOver = ⊥
 EndsRunBy counts ended.ConfigOver = ⊥
 EndsRunBy counts (ended.NotOpened error) = ⊥
 EndsRunBy counts (ended.NotMade error) = ⊥

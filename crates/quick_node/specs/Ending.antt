@@ -3,7 +3,9 @@ use Rattle.std.specs.Prelude.{◌≡◌, ◌⊎◌, ℕ, ◌==◌, ◌||◌, Boo
 use Rattle.index_world.specs.Saying.{words, error_words}
 use Rattle.index_world.specs.declared.world_error.WorldError.{WorldError}
 use Rattle.index_world.specs.declared.world_error.WorldError.TheVariants as errors
-use Rattle.quick_node.specs.Reading.{max_clients, max_line, max_input, max_config}
+use Rattle.input_lines.specs.Reading.{max_clients, max_line, max_input}
+use Rattle.quick_node.specs.Reading.{max_config}
+use Rattle.input_lines.specs.Requests.{max_requests}
 use Rattle.quick_node.specs.Serve.{WroteLine}
 use Rattle.quick_node.specs.declared.error_line.End.{End}
 use Rattle.quick_node.specs.declared.error_line.End.TheVariants as ends
@@ -44,6 +46,7 @@ ended_status (ends.BadLine number) = 3
 ended_status ends.ClientsOver = 10
 ended_status ends.LineOver = 10
 ended_status ends.InputOver = 10
+ended_status ends.RequestsOver = 10
 ended_status ends.ConfigOver = 10
 ended_status (ends.NotOpened error) = opening_status error
 ended_status (ends.NotMade error) = making_status error
@@ -61,6 +64,7 @@ cause_words (ends.BadLine number) = codes "badline" ∷ decimal number ∷ []
 cause_words ends.ClientsOver = limit_words (codes "clients") max_clients
 cause_words ends.LineOver = limit_words (codes "line") max_line
 cause_words ends.InputOver = limit_words (codes "input") max_input
+cause_words ends.RequestsOver = limit_words (codes "requests") max_requests
 cause_words ends.ConfigOver = limit_words (codes "config") max_config
 cause_words (ends.NotOpened error) = error_words error
 cause_words (ends.NotMade error) = error_words error

@@ -4,8 +4,6 @@ pub mod Deletes
 pub mod Refusals
 pub mod Once
 pub mod Serve
-pub mod Pieces
-pub mod Held
 pub mod Ending
 pub mod Running
 pub mod Causes
@@ -18,4 +16,6 @@ pub mod Applies
 pub mod Creating
 pub mod Reporting
 pub mod Opening
+pub mod Runs
+pub mod Saying
 pub mod Contract

@@ -14,6 +14,7 @@ use Rattle.quick_node.specs.Creating.{IsCreate, SaysCreated}
 use Rattle.quick_node.specs.Ending.{EndsSo, ended_status}
 use Rattle.quick_node.specs.Reading.{max_config}
 use Rattle.quick_node.specs.Reporting.{AsksFor, report_text, SaysReport}
+use Rattle.quick_node.specs.Runs.{AsksRun}
 use Rattle.quick_node.specs.Serve.{IsDrive}
 use Rattle.quick_node.specs.declared.error_line.End.{End as Ended}
 use Rattle.quick_node.specs.declared.error_line.End.TheVariants as ended
@@ -67,12 +68,38 @@ DriveFinds Line before after (ended.BadLine number) = IsFound before.store
 DriveFinds Line before after ended.ClientsOver = IsFound before.store
 DriveFinds Line before after ended.LineOver = IsFound before.store
 DriveFinds Line before after ended.InputOver = IsFound before.store
+DriveFinds Line before after ended.RequestsOver = ⊥
 DriveFinds Line before after ended.ConfigOver = ⊥
 DriveFinds Line before after (ended.NotOpened error) = OpensNone Line before after error
 DriveFinds Line before after (ended.NotMade error) = ⊥
 DriveFinds Line before after ended.ReadFault = IsFound before.store
 DriveFinds Line before after ended.WriteFault = IsFound before.store
 DriveFinds Line before after ended.Memory = IsFound before.store ⊎ (StoreStays before after × InputStays before after)
+
+-- the store was found to be an index of some entries, and this state was left behind that
+abbrev pub IsFoundFrom : (old new : State) → Type 0
+IsFoundFrom old new = (entries : List Entry) × Finds (all_found entries) old new
+
+-- The store is as the opening of the index that was found left it, and this is the line.
+pub record LeavesFound (Line : Ended → Type 0) (before after : Outside) (end : Ended) : Type 0 where
+  pub found : WhereTold before.store after.store IsFoundFrom
+  pub line : Line end
+
+-- A run ends so: where the input is no list of requests, or its reading fails, it leaves the index that was found.
+abbrev pub RunFinds : (Ended → Type 0) → Outside → Outside → Ended → Type 0
+RunFinds Line before after ended.Done = IsFound before.store
+RunFinds Line before after ended.BadWords = ⊥
+RunFinds Line before after (ended.BadLine number) = LeavesFound Line before after (ended.BadLine number)
+RunFinds Line before after ended.ClientsOver = LeavesFound Line before after ended.ClientsOver
+RunFinds Line before after ended.LineOver = LeavesFound Line before after ended.LineOver
+RunFinds Line before after ended.InputOver = LeavesFound Line before after ended.InputOver
+RunFinds Line before after ended.RequestsOver = LeavesFound Line before after ended.RequestsOver
+RunFinds Line before after ended.ConfigOver = ⊥
+RunFinds Line before after (ended.NotOpened error) = OpensNone Line before after error
+RunFinds Line before after (ended.NotMade error) = ⊥
+RunFinds Line before after ended.ReadFault = LeavesFound Line before after ended.ReadFault
+RunFinds Line before after ended.WriteFault = IsFound before.store
+RunFinds Line before after ended.Memory = IsFound before.store ⊎ (StoreStays before after × InputStays before after)
 
 -- the report on the state of the entries that were found was written, a front of it where a write failed, or nothing without
 -- memory for it
@@ -89,6 +116,7 @@ ReportFinds asked Line before after (ended.BadLine number) = ⊥
 ReportFinds asked Line before after ended.ClientsOver = ⊥
 ReportFinds asked Line before after ended.LineOver = ⊥
 ReportFinds asked Line before after ended.InputOver = ⊥
+ReportFinds asked Line before after ended.RequestsOver = ⊥
 ReportFinds asked Line before after ended.ConfigOver = ⊥
 ReportFinds asked Line before after (ended.NotOpened error) = OpensNone Line before after error
 ReportFinds asked Line before after (ended.NotMade error) = ⊥
@@ -128,6 +156,7 @@ CreateFinds clock Line before after (ended.BadLine number) = ⊥
 CreateFinds clock Line before after ended.ClientsOver = ⊥
 CreateFinds clock Line before after ended.LineOver = ⊥
 CreateFinds clock Line before after ended.InputOver = ⊥
+CreateFinds clock Line before after ended.RequestsOver = ⊥
 CreateFinds clock Line before after ended.ConfigOver = StoreStays before after × IfSome before.input (λ bytes. max_config < length bytes)
 CreateFinds clock Line before after (ended.NotOpened error) = ⊥
 CreateFinds clock Line before after (ended.NotMade error) = MakesNone clock Line before after error
@@ -153,8 +182,9 @@ pub record EndsBy (Says : (Ended → Type 0) → Outside → Outside → Ended �
 
 -- So ends each command over every store, between what the outside tells before the call and behind it. Status 7 comes with the line
 -- of the key that the store was found to have, exactly where it was found to be no index; 8 exactly where it has no entry.
-pub record Opening (given : List (List ℕ)) (clock : Option ℕ) (before after : Outside) (status : ℕ) : Type 0 where
+pub record Opening (readers : ℕ) (given : List (List ℕ)) (clock : Option ℕ) (before after : Outside) (status : ℕ) : Type 0 where
   pub drive : IsDrive given → EndsBy DriveFinds before after status
+  pub run : AsksRun readers given → EndsBy RunFinds before after status
   pub create : IsCreate given → EndsBy (CreateFinds clock) before after status
   pub report : (asked : Report) → AsksFor asked given → EndsBy (ReportFinds asked) before after status
 

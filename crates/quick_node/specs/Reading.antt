@@ -1,5 +1,5 @@
 -- How the input of a schedule is read: line by line, up to its end or to the first line that isn't answered.
-use Rattle.std.specs.Prelude.{◌≡◌, ◌⊎◌, ℕ, suc, ◌+◌, ◌<◌, ◌≤◌, ◌==◌, Bool, true, false, List, [], ◌∷◌, ◌++◌, length, Option, Some, min, nat_le, nat_lt, if◌then◌else◌, bytes_eq}
+use Rattle.std.specs.Prelude.{◌≡◌, ◌⊎◌, ℕ, zero, suc, ◌+◌, ◌<◌, ◌≤◌, ◌==◌, Bool, true, false, List, [], ◌∷◌, ◌++◌, length, Option, Some, min, nat_le, nat_lt, if◌then◌else◌, bytes_eq}
 use Rattle.std.specs.List.{list_any}
 use Rattle.node_run.specs.Lines.{Spells}
 use Rattle.node_run.specs.Node.{Line, At, Assign, StepIndexer, RestartIndexer, RestartClient, StepMerger, RestartMerger, StepDeleter, RestartDeleter, StepCollector, RestartCollector, RestartNode, Open, StepClient}
@@ -144,15 +144,21 @@ ReadsFrom readers total at before (raw ∷ raws) (line ∷ lines) ending =
     Within total at raw × Spells raw line × (fit_of readers before line ≡ fits)
     × ReadsFrom readers total (at + length raw + 1) (before ++ line ∷ []) raws lines ending
 
--- how many bytes stand before the line feed of the line behind these lines, or all where there is none
-abbrev pub next_feed : ℕ → List (List ℕ) → List Line → ℕ
-next_feed at [] lines = at
-next_feed at (raw ∷ raws) [] = at + length raw
-next_feed at (raw ∷ raws) (line ∷ lines) = next_feed (at + length raw + 1) raws lines
+-- how many bytes stand before the line feed of the line behind so many lines, or all where there is none
+abbrev pub feed_behind : ℕ → List (List ℕ) → (lines : ℕ) → ℕ
+feed_behind at [] lines = at
+feed_behind at (raw ∷ raws) zero = at + length raw
+feed_behind at (raw ∷ raws) (suc lines) = feed_behind (at + length raw + 1) raws lines
 
--- The input failed in the line behind these lines: this is left of it, and the line feed of that line was not read.
+-- The input failed in the line behind so many lines: this is left of it, and the line feed of that line was not read.
+abbrev pub FailsAfter : List ℕ → Option (List ℕ) → (lines : ℕ) → Type 0
+FailsAfter input left lines = (rest : List ℕ) × (left ≡ Some rest) × (length input ≤ feed_behind 0 (raw_lines input) lines + length rest)
+
+abbrev pub next_feed : ℕ → List (List ℕ) → List Line → ℕ
+next_feed at raws lines = feed_behind at raws (length lines)
+
 abbrev pub FailsBehind : List ℕ → Option (List ℕ) → List Line → Type 0
-FailsBehind input left lines = (rest : List ℕ) × (left ≡ Some rest) × (length input ≤ next_feed 0 (raw_lines input) lines + length rest)
+FailsBehind input left lines = FailsAfter input left (length lines)
 
 -- the input is read as these lines by so many readers of logs, and the reading ends so
 abbrev pub Reads : ℕ → List ℕ → List Line → Ending → Type 0

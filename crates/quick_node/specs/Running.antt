@@ -14,7 +14,8 @@ use Rattle.node_run.specs.Turns.{Turn, Turns}
 use Rattle.quick_node.specs.declared.error_line.End.{End as Ended}
 use Rattle.quick_node.specs.declared.error_line.End.TheVariants as ended
 use Rattle.quick_node.specs.Collects.{LineCollects}
-use Rattle.quick_node.specs.Reading.{raw_lines, fits, fit_of, names_in, last_moment, max_clients, Within, all_read, bad_line, clients_over, line_over, input_over, stopped, Reads, FailsBehind}
+use Rattle.input_lines.specs.Reading.{raw_lines, max_clients, Within}
+use Rattle.quick_node.specs.Reading.{fits, fit_of, names_in, last_moment, all_read, bad_line, clients_over, line_over, input_over, stopped, Reads, FailsBehind}
 use Rattle.quick_node.specs.Once.{Reaches}
 use Rattle.quick_node.specs.Serve.{CutShort, WroteMost, TurnsAlong, RunAlong, End, by_reading, no_index, opening_failed, read_failed, write_failed, out_of_memory}
 
@@ -50,6 +51,7 @@ EndsLine Stands text number node held content before after ended.ClientsOver =
     Stands node × (content ≡ Some held) × IsNotTaken text node accepts.TooManyClients
 EndsLine Stands text number node held content before after ended.LineOver = ⊥
 EndsLine Stands text number node held content before after ended.InputOver = ⊥
+EndsLine Stands text number node held content before after ended.RequestsOver = ⊥
 EndsLine Stands text number node held content before after ended.ConfigOver = ⊥
 EndsLine Stands text number node held content before after (ended.NotOpened error) = ⊥
 EndsLine Stands text number node held content before after (ended.NotMade error) = ⊥
@@ -82,6 +84,7 @@ IsRunEnd (ended.BadLine number) end = end ≡ by_reading (bad_line number)
 IsRunEnd ended.ClientsOver end = end ≡ by_reading clients_over
 IsRunEnd ended.LineOver end = end ≡ by_reading line_over
 IsRunEnd ended.InputOver end = end ≡ by_reading input_over
+IsRunEnd ended.RequestsOver end = ⊥
 IsRunEnd ended.ConfigOver end = ⊥
 IsRunEnd (ended.NotOpened error) end = ⊥
 IsRunEnd (ended.NotMade error) end = ⊥

@@ -39,7 +39,8 @@ use Rattle.quick_node.specs.Once.{HoldsOnce, CoversAt, AreLeft, Reaches}
 use Rattle.quick_node.specs.Refusals.{RefusesFrom}
 use Rattle.quick_node.specs.Replaces.{ReplacesFrom, RestsFrom}
 use Rattle.quick_node.specs.Replaces as merges
-use Rattle.quick_node.specs.Reading.{Ending, all_read, bad_line, clients_over, line_over, input_over, stopped, Reads, FailsBehind, max_clients, max_line, max_input}
+use Rattle.input_lines.specs.Reading.{max_clients, max_line, max_input}
+use Rattle.quick_node.specs.Reading.{Ending, all_read, bad_line, clients_over, line_over, input_over, stopped, Reads, FailsBehind}
 
 abbrev pub IsPrefixOf : {X : Type 0} → List X → List X → Type 0
 IsPrefixOf {X} xs ys = (rest : List X) × (ys ≡ xs ++ rest)

@@ -5,9 +5,9 @@ ghost use Rattle.index_world.specs.Saying.{with_words};
 ghost use Rattle.quick_node.specs.Ending.{opening_status as status_of_opening, making_status as status_of_making, ended_status, limit_words, cause_words, last_line};
 
 use crate::creating::MAX_CONFIG;
-use crate::lines::{MAX_INPUT, MAX_LINE};
 use byte_fields::Bytes;
 use index_world::{WorldError, put_fault, put_number, put_word};
+use input_lines::{MAX_INPUT, MAX_LINE, MAX_REQUESTS};
 use node_run::MAX_CLIENTS;
 use std::alloc::{AllocError, Global};
 
@@ -25,6 +25,7 @@ pub enum End {
     ClientsOver,
     LineOver,
     InputOver,
+    RequestsOver,
     ConfigOver,
     /// The index was not opened.
     NotOpened(WorldError),
@@ -69,6 +70,7 @@ pub fn status_of(end: &End) -> u8
         End::ClientsOver => 10,
         End::LineOver => 10,
         End::InputOver => 10,
+        End::RequestsOver => 10,
         End::ConfigOver => 10,
         End::NotOpened(error) => opening_status(error),
         End::NotMade(error) => making_status(error),
@@ -99,6 +101,7 @@ fn put_cause(alloc: Global, out: &mut Bytes, end: &End) -> Result<(), AllocError
         End::ClientsOver => put_limit(alloc, out, b"clients", MAX_CLIENTS),
         End::LineOver => put_limit(alloc, out, b"line", MAX_LINE),
         End::InputOver => put_limit(alloc, out, b"input", MAX_INPUT),
+        End::RequestsOver => put_limit(alloc, out, b"requests", MAX_REQUESTS as u64),
         End::ConfigOver => put_limit(alloc, out, b"config", MAX_CONFIG as u64),
         End::NotOpened(error) => put_fault(alloc, out, error),
         End::NotMade(error) => put_fault(alloc, out, error),

@@ -6,10 +6,10 @@
 mod creating;
 mod error_line;
 pub mod laws;
-mod lines;
 mod reasons;
 mod reporting;
 mod running;
+mod saying;
 mod serving;
 mod writing;
 
@@ -127,7 +127,7 @@ fn status_with<Rt: Threads + Wait + Sync + Input + Print, S: ObjectStore + Reaso
 // Whether the words name a command that writes objects.
 fn is_writing(alloc: Global, words: &[String]) -> Result<bool, AllocError> {
     match read_words(alloc, words)? {
-        Some(Command::Create | Command::Drive) => Ok(true),
+        Some(Command::Create | Command::Drive | Command::Run(_)) => Ok(true),
         Some(Command::Splits | Command::Describe) => Ok(false),
         None => Ok(false),
     }
@@ -193,6 +193,8 @@ mod deleter_rows;
 mod merger_rows;
 #[cfg(test)]
 mod report_rows;
+#[cfg(test)]
+mod run_rows;
 #[cfg(test)]
 mod script;
 #[cfg(test)]

@@ -9,12 +9,12 @@ ghost use Rattle.node_run.specs.Seen.{seen};
 ghost use Rattle.node_run.specs.Standing.{NodeStands, accepts_of};
 ghost use Rattle.quick_node.specs.Causes.{EndsLineBy, EndsRunBy};
 ghost use Rattle.quick_node.specs.Running.{Counts, counts_of, TakesLine, done_behind, IsGoing, GoesOrEnds, Runs, RunsOrShort};
-ghost use Rattle.quick_node.specs.Held.{held as in_hand};
+ghost use Rattle.input_lines.specs.Held.{held as in_hand};
 
 use crate::error_line::End;
-use crate::lines::{Lines, Next};
 use crate::writing::write_all;
 use byte_fields::{Sink, Source};
+use input_lines::{Lines, Next};
 use node_run::{Accepts, DriveNode, Line, LineError, read_line};
 use object_store::ObjectStore;
 use source_log::SourceLog;

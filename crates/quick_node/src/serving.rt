@@ -1,12 +1,14 @@
 //! The top call: one command over a store, logs, a clock, an input and an output.
 
-ghost use Rattle.std.specs.Prelude.{◌≡◌, ◌⊎◌, ◌≤◌, ℕ, List, Some, Ok, map, min, sum};
+ghost use Rattle.std.specs.Prelude.{◌≡◌, ◌⊎◌, ◌≤◌, ℕ, All, List, Option, Some, Ok, length, map, min, sum};
 ghost use Rattle.std.specs.List.{AllZip};
 ghost use Rattle.std.specs.String.{string_bytes};
 ghost use Rattle.meta_journal.specs.declared.entry.Entry.{Entry};
-ghost use Rattle.object_store.specs.Store.{HasLanded, WhereTold};
-ghost use Rattle.source_log.specs.Log.{IsLog};
-ghost use Rattle.index_world.specs.Core.{last_count};
+ghost use Rattle.command_words.specs.Words.{IsWithin};
+ghost use Rattle.command_words.specs.declared.run.RunOptions.{RunOptions as RunWords};
+ghost use Rattle.object_store.specs.Store.{HasLanded, State, WhereTold};
+ghost use Rattle.source_log.specs.Log.{IsLog, Log};
+ghost use Rattle.index_world.specs.Core.{Core, last_count};
 ghost use Rattle.index_world.specs.World.{WorldStands};
 ghost use Rattle.node_run.specs.Node.{Node};
 ghost use Rattle.node_run.specs.Logs.{logs_in};
@@ -15,21 +17,26 @@ ghost use Rattle.quick_node.specs.Causes.{faults_of, IsOneOf, other_statuses, Dr
 ghost use Rattle.quick_node.specs.Contract.{Serves};
 ghost use Rattle.quick_node.specs.Creating.{CreatesAt};
 ghost use Rattle.quick_node.specs.Ending.{EndsSo, ended_status};
-ghost use Rattle.quick_node.specs.Opening.{Outside, outside_of, IsFound, DriveFinds, CreateFinds, ReportFinds, EndsBy};
+ghost use Rattle.quick_node.specs.Opening.{Outside, outside_of, IsFound, IsFoundFrom, DriveFinds, RunFinds, CreateFinds, ReportFinds, EndsBy};
 ghost use Rattle.quick_node.specs.Reporting.{Reports};
+ghost use Rattle.quick_node.specs.Runs.{Runs, options_of};
+ghost use Rattle.quick_node.specs.Saying.{RanOn, SaidAlone, end_of};
 ghost use Rattle.quick_node.specs.Serve.{Before, LogsShow, StreamsShow, Shows, Returns, EntersAs, IsFresh, Opens, BeginsAlong, Drives, WroteWords};
 
 use crate::creating::create_index;
 use crate::error_line::{End, NO_MEMORY, print_end, status_of};
 use crate::reporting::{Report, write_report};
 use crate::running::run;
+use crate::saying::{Finished, finish};
 use crate::writing::write_all;
 use byte_fields::{Sink, Source};
 use clock_time::{Clock, ScriptClock};
-use command_words::{Command, read_words};
+use command_words::{Command, RunOptions as RunAsked, read_words};
 use index_world::{Unopened, World};
-use node_run::{DriveNode, Logs, Unstarted};
+use input_lines::{ReadEnd, read_requests};
+use node_run::{DriveNode, Logs, RunOptions, Unstarted};
 use object_store::ObjectStore;
+use run_plan::Request;
 use source_log::SourceLog;
 use std::alloc::Global;
 use std::mem;
@@ -264,6 +271,178 @@ fn report<S: ObjectStore, L: SourceLog, R: Source, W: Sink>(
     ended(alloc, store, Logs::Unread(logs), end, output)
 }
 
+// What the words ask of a run.
+fn options_of(asked: &RunAsked) -> RunOptions
+    requires { IsWithin asked.now }
+    ensures { result ≡ options_of asked.now }
+{
+    RunOptions {
+        indexers: asked.indexers as usize,
+        searchers: asked.searchers as usize,
+        turns: asked.turns,
+        settle: asked.settle,
+    }
+}
+
+// How a run ends that does not begin, by the reading of its input.
+fn end_of(end: ReadEnd) -> Option<End>
+    ensures { result ≡ end_of end }
+{
+    match end {
+        ReadEnd::Whole => None,
+        ReadEnd::BadLine(number) => Some(End::BadLine(number)),
+        ReadEnd::RequestsOver => Some(End::RequestsOver),
+        ReadEnd::ClientsOver => Some(End::ClientsOver),
+        ReadEnd::LineOver => Some(End::LineOver),
+        ReadEnd::InputOver => Some(End::InputOver),
+        ReadEnd::Fault => Some(End::ReadFault),
+    }
+}
+
+// Lets an opened world go as it is.
+fn unused<S: ObjectStore, L: SourceLog, W: Sink>(
+    alloc: Global,
+    world: World<S, ScriptClock>,
+    logs: Vec<L>,
+    end: End,
+    output: &mut W,
+) -> (Served<S>, Logs<L>)
+    ensures store { S.told result.0.store ≡ world.told }
+    ensures store_faults { (result.0.store_faults ≡ S.fault_count result.0.store) × (S.fault_count result.0.store ≡ world.store_faults) }
+    ensures logs { logs_in result.1 ≡ logs.items }
+    ensures later { AllZip L.since logs.items (logs_in result.1) }
+    ensures log_sum { result.0.log_faults ≡ min (sum (map L.fault_count (logs_in result.1))) last_count }
+    ensures counted { W.fault_count output.old ≤ W.fault_count output.new }
+    ensures status { (result.0.status ≡ ended_status end) ⊎ (result.0.status ≡ 11) }
+    ensures writes { (held : List ℕ) → W.content output.old ≡ Some held →
+        EndsSo end held (W.content output.new) (W.fault_count output.old) (W.fault_count output.new) result.0.status }
+{
+    let (store, _) = world.unload();
+    ended(alloc, store, Logs::Unread(logs), end, output)
+}
+
+// Makes a run over an opened world, by these requests.
+#[tactic(none)]
+fn run_requests<
+    Rt: Threads + Wait + Sync,
+    S: ObjectStore + Send,
+    L: SourceLog + Send,
+    C: Clock + Send,
+    W: Sink,
+>(
+    rt: &Rt,
+    alloc: Global,
+    options: RunOptions,
+    world: World<S, ScriptClock>,
+    logs: Vec<L>,
+    clock: C,
+    requests: Vec<Request>,
+    output: &mut W,
+) -> (Served<S>, Logs<L>)
+    requires indexers { (1 ≤ options.indexers) × (options.indexers ≤ 64) × (options.indexers ≤ length logs.items) }
+    requires searchers { (1 ≤ options.searchers) × (options.searchers ≤ 64) }
+    ensures later { AllZip L.since logs.items (logs_in result.1) }
+    ensures counted { W.fault_count output.old ≤ W.fault_count output.new }
+    ensures ends { SaidAlone (W.fault_count output.old) (W.fault_count output.new) result.0.status }
+    ensures ran { (core : Core) (log : Log) (held : List ℕ) → IsLog log → WorldStands world core log → All (λ own. L.told own ≡ Some log) logs.items →
+        W.content output.old ≡ Some held →
+        RanOn options log (map L.fault_count logs.items) (map L.fault_count (logs_in result.1)) core requests.items
+        (S.told result.0.store) (S.fault_count result.0.store) held (W.content output.new) (W.fault_count output.old) (W.fault_count output.new) result.0.status }
+    ensures store_faults { result.0.store_faults ≡ S.fault_count result.0.store }
+    ensures log_sum { result.0.log_faults ≡ min (sum (map L.fault_count (logs_in result.1))) last_count }
+{
+    let Finished { end, store, logs } = finish(
+        rt, alloc, options, world, logs, clock, requests, output,
+    );
+    ended(alloc, store, Logs::Unread(logs), end, output)
+}
+
+// Reads the requests of an input, and makes a run over an opened world.
+#[tactic(none)]
+fn run_world<
+    Rt: Threads + Wait + Sync,
+    S: ObjectStore + Send,
+    L: SourceLog + Send,
+    C: Clock + Send,
+    R: Source,
+    W: Sink,
+>(
+    rt: &Rt,
+    alloc: Global,
+    options: RunOptions,
+    world: World<S, ScriptClock>,
+    logs: Vec<L>,
+    clock: C,
+    input: &mut R,
+    output: &mut W,
+) -> (Served<S>, Logs<L>)
+    requires indexers { (1 ≤ options.indexers) × (options.indexers ≤ 64) × (options.indexers ≤ length logs.items) }
+    requires searchers { (1 ≤ options.searchers) × (options.searchers ≤ 64) }
+    ensures runs { (asked : RunWords) (history : List Entry) (before : Before) (fresh opened : Node) → options ≡ options_of asked → IsFresh before history fresh → Opens fresh (Ok tt) opened →
+        fresh.core.store_faults ≤ opened.core.store_faults → WorldStands world opened.core before.log → IsLog before.log → LogsShow L.told L.fault_count logs.items before →
+        StreamsShow R.left R.fault_count W.content W.fault_count input.old output.old before →
+        Returns S.told S.fault_count L.fault_count L.since R.left R.fault_count W.content W.fault_count result.0.store result.0.store_faults result.0.log_faults
+        logs.items (logs_in result.1) input.new output.new (λ after. Runs asked history before after result.0.status) }
+    ensures opening { (told : Option State) (count : ℕ) → WhereTold told world.told IsFoundFrom →
+        EndsBy RunFinds (outside_of told count (R.left input.old) (R.fault_count input.old) (W.content output.old) (W.fault_count output.old))
+        (outside_of (S.told result.0.store) (S.fault_count result.0.store) (R.left input.new) (R.fault_count input.new) (W.content output.new) (W.fault_count output.new)) result.0.status }
+    ensures causes { (low high : ℕ) → DriveCauses (faults_of low (R.fault_count input.old) (W.fault_count output.old))
+        (faults_of high (R.fault_count input.new) (W.fault_count output.new)) result.0.status }
+    ensures store_faults { result.0.store_faults ≡ S.fault_count result.0.store }
+    ensures log_sum { result.0.log_faults ≡ min (sum (map L.fault_count (logs_in result.1))) last_count }
+{
+    let Ok((requests, read)) = read_requests(alloc, input) else {
+        return unused(alloc, world, logs, End::Memory, output);
+    };
+    match end_of(read) {
+        None => run_requests(rt, alloc, options, world, logs, clock, requests, output),
+        Some(end) => unused(alloc, world, logs, end, output),
+    }
+}
+
+// Opens the index of a store, and makes a run over it.
+#[tactic(none)]
+fn run_index<
+    Rt: Threads + Wait + Sync,
+    S: ObjectStore + Send,
+    L: SourceLog + Send,
+    C: Clock + Send,
+    R: Source,
+    W: Sink,
+>(
+    rt: &Rt,
+    alloc: Global,
+    options: RunOptions,
+    store: S,
+    logs: Vec<L>,
+    clock: C,
+    input: &mut R,
+    output: &mut W,
+) -> (Served<S>, Logs<L>)
+    requires indexers { (1 ≤ options.indexers) × (options.indexers ≤ 64) × (options.indexers ≤ length logs.items) }
+    requires searchers { (1 ≤ options.searchers) × (options.searchers ≤ 64) }
+    ensures runs { (asked : RunWords) (history : List Entry) (before : Before) → options ≡ options_of asked →
+        Shows S.told S.fault_count L.told L.fault_count R.left R.fault_count W.content W.fault_count store logs.items input.old output.old before →
+        EntersAs history before →
+        Returns S.told S.fault_count L.fault_count L.since R.left R.fault_count W.content W.fault_count result.0.store result.0.store_faults result.0.log_faults
+        logs.items (logs_in result.1) input.new output.new (λ after. Runs asked history before after result.0.status) }
+    ensures opening { EndsBy RunFinds (outside_of (S.told store) (S.fault_count store) (R.left input.old) (R.fault_count input.old) (W.content output.old) (W.fault_count output.old))
+        (outside_of (S.told result.0.store) (S.fault_count result.0.store) (R.left input.new) (R.fault_count input.new) (W.content output.new) (W.fault_count output.new)) result.0.status }
+    ensures causes { DriveCauses (faults_of (S.fault_count store) (R.fault_count input.old) (W.fault_count output.old))
+        (faults_of (S.fault_count result.0.store) (R.fault_count input.new) (W.fault_count output.new)) result.0.status }
+    ensures store_faults { result.0.store_faults ≡ S.fault_count result.0.store }
+    ensures log_sum { result.0.log_faults ≡ min (sum (map L.fault_count (logs_in result.1))) last_count }
+{
+    match World::load(alloc, store, ScriptClock::at(0)) {
+        Ok(world) => run_world(rt, alloc, options, world, logs, clock, input, output),
+        Err(unopened) => {
+            let Unopened { error, store } = unopened;
+            let end = End::NotOpened(error);
+            ended(alloc, store, Logs::Unread(logs), end, output)
+        }
+    }
+}
+
 /// Does the command that the words name. `drive` reads a schedule line by line from the input, and answers each line by a
 /// line of the output. `create` reads a configuration from the input, and makes the index of a store that has none, at the
 /// moment that the clock tells. `splits` writes a line for each split of the index, and `describe` the index as a whole.
@@ -302,6 +481,13 @@ pub fn serve_with_logs<
     match command {
         Command::Create => create(alloc, store, logs, clock, input, output),
         Command::Drive => drive(rt, alloc, store, logs, input, output),
+        Command::Run(asked) => {
+            let options = options_of(&asked);
+            if logs.len() < options.indexers {
+                return refuse(alloc, store, logs, output);
+            }
+            run_index(rt, alloc, options, store, logs, clock, input, output)
+        }
         Command::Splits => report(alloc, Report::Splits, store, logs, input, output),
         Command::Describe => report(alloc, Report::Describe, store, logs, input, output),
     }

@@ -6,6 +6,7 @@ use crate::deleter_races::DELETER_RACES;
 use crate::deleter_rows::DELETER_ROWS;
 use crate::merger_rows::MERGER_ROWS;
 use crate::report_rows::REPORT_ROWS;
+use crate::run_rows::RUN_ROWS;
 use crate::script::ROWS;
 use crate::search_rows::SEARCH_ROWS;
 use crate::serving::serve_with_logs;
@@ -609,6 +610,11 @@ fn rows_of_the_delete_worker(rt: HostRuntime) -> Result<(), Fail> {
 #[test]
 fn rows_of_the_delete_worker_beside_others(rt: HostRuntime) -> Result<(), Fail> {
     do_rows(&rt, rt.alloc(), DELETER_RACES, 10)
+}
+
+#[test]
+fn rows_of_runs(rt: HostRuntime) -> Result<(), Fail> {
+    do_rows(&rt, rt.alloc(), RUN_ROWS, 20)
 }
 
 const SCHEDULE: &str =

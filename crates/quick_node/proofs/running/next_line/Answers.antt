@@ -8,8 +8,8 @@ use Rattle.quick_node.specs.declared.error_line.End.{End as Ended}
 use Rattle.quick_node.specs.declared.error_line.End.TheVariants as ended
 use Rattle.quick_node.specs.Causes.{EndsRunBy}
 use Rattle.quick_node.specs.Running.{counts_of, GoesOrEnds, Runs}
-use Rattle.quick_node.specs.Held.{held as in_hand}
-use Rattle.quick_node.specs.Pieces.{IsLine, IsFed, IsFault}
+use Rattle.input_lines.specs.Held.{held as in_hand}
+use Rattle.input_lines.specs.Pieces.{IsLine, IsFed, IsFault}
 use Rattle.quick_node.proofs.RunSteps.{rose_earlier, ends_short, ends_by_fault, ends_at_end, ends_at_line, ends_at_input, came_line, came_last, line_came, done_or_ends, never_goes_on, ends_in_short, some_not_none, if_ok_any, if_ok_err}
 use Rattle.quick_node.proofs.Caused.{line_causes, done_causes}
 use Rattle.quick_node.proofs.running.next_line.Goals as goal

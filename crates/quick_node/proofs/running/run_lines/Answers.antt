@@ -1,7 +1,7 @@
 use Rattle.std.proofs.Common.{◌+◌, [], length, refl, arith}
 use Rattle.node_run.specs.Node.{Node}
 use Rattle.node_run.specs.Standing.{NodeStands}
-use Rattle.quick_node.specs.Held.{held as in_hand}
+use Rattle.input_lines.specs.Held.{held as in_hand}
 use Rattle.quick_node.specs.Running.{counts_of}
 use Rattle.quick_node.proofs.RunSteps.{if_ok_err, begins, begins_with, ends_short, run_in_short, went_on, same_number, ended_by}
 use Rattle.quick_node.proofs.Caused.{ended_earlier}

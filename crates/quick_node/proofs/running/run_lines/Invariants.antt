@@ -2,7 +2,7 @@ use Rattle.std.proofs.Common.{◌≡◌, ◌≤◌, ◌-◌, ℕ, List, [], leng
 use Rattle.std.specs.Prelude.{Some}
 use Rattle.node_run.specs.Node.{Node}
 use Rattle.node_run.specs.Standing.{NodeStands}
-use Rattle.quick_node.specs.Held.{held as in_hand}
+use Rattle.input_lines.specs.Held.{held as in_hand}
 use Rattle.quick_node.specs.Running.{IsGoing}
 use Rattle.quick_node.proofs.running.run_lines.Given as goal
 

@@ -1,0 +1,9 @@
+pub mod Spelling
+pub mod Splitting
+pub mod Bad
+pub mod Naming
+pub mod Asked
+pub mod Feeding
+pub mod Names
+pub mod Asking
+pub mod RequestsInOneWay
