@@ -16,10 +16,10 @@ use Rattle.index_world.specs.Loading.{IsUnread}
 use Rattle.index_world.specs.World.{GoesFor, IsWorld}
 use Rattle.index_world.specs.declared.world_error.WorldError.{WorldError}
 use Rattle.index_world.specs.declared.world_error.WorldError.TheVariants as errors
-use Rattle.node_run.specs.declared.run_end.RunOptions.{RunOptions}
+use Rattle.thread_run.specs.declared.run_end.RunOptions.{RunOptions}
 use Rattle.node_run.specs.Node.{Node}
 use Rattle.node_run.specs.Standing.{GivesLogs, LetGo}
-use Rattle.node_run.proofs.CallMoves.{Grows, grows_on}
+use Rattle.call_laws.proofs.CallMoves.{Grows, grows_on}
 use Rattle.run_plan.specs.declared.clients.Request.{Request}
 use Rattle.quick_node.specs.Ending.{EndsSo, ended_status, last_line}
 use Rattle.input_lines.specs.Requests.{HasRead, IsFault, Reads}

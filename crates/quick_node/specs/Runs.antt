@@ -19,11 +19,11 @@ use Rattle.index_world.specs.Standing.{IsCoreOf}
 use Rattle.index_world.specs.World.{GoesFor}
 use Rattle.node_run.specs.Node.{Node}
 use Rattle.run_plan.specs.declared.clients.Request.{Request}
-use Rattle.node_run.specs.declared.run_end.RunOptions.{RunOptions}
-use Rattle.node_run.specs.RunAll.{RunSaid}
-use Rattle.node_run.specs.EndLines.{end_text, settled_text}
-use Rattle.node_run.specs.declared.end_lines.ActorEnd.{ActorEnd}
-use Rattle.node_run.specs.declared.settling.Settled.{Settled}
+use Rattle.thread_run.specs.declared.run_end.RunOptions.{RunOptions}
+use Rattle.thread_run.specs.RunAll.{RunSaid}
+use Rattle.thread_run.specs.EndLines.{end_text, settled_text}
+use Rattle.thread_run.specs.declared.end_lines.ActorEnd.{ActorEnd}
+use Rattle.thread_run.specs.declared.settling.Settled.{Settled}
 use Rattle.quick_node.specs.Once.{HoldsOnce, CoversAt, AreLeft}
 use Rattle.input_lines.specs.Reading.{max_clients, max_input, max_line}
 use Rattle.input_lines.specs.Requests.{HasRead, IsFault, Reads, max_requests}

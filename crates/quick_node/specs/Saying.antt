@@ -8,8 +8,8 @@ use Rattle.source_log.specs.Log.{Log}
 use Rattle.index_world.specs.Core.{Core, IsConfigured, Nobody}
 use Rattle.index_world.specs.World.{GoesFor, IsWorld}
 use Rattle.run_plan.specs.declared.clients.Request.{Request}
-use Rattle.node_run.specs.declared.run_end.RunOptions.{RunOptions}
-use Rattle.node_run.specs.EndLines.{end_text}
+use Rattle.thread_run.specs.declared.run_end.RunOptions.{RunOptions}
+use Rattle.thread_run.specs.EndLines.{end_text}
 use Rattle.quick_node.specs.Ending.{ended_status}
 use Rattle.quick_node.specs.Runs.{RunSays, Said, said_text}
 use Rattle.quick_node.specs.Serve.{IsPrefixOf}

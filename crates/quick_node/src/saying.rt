@@ -6,7 +6,7 @@ ghost use Rattle.search_api.specs.Replies.{reply_text};
 ghost use Rattle.source_log.specs.Log.{IsLog, Log};
 ghost use Rattle.index_world.specs.Core.{Core};
 ghost use Rattle.index_world.specs.World.{WorldStands};
-ghost use Rattle.node_run.specs.EndLines.{end_text, settled_text};
+ghost use Rattle.thread_run.specs.EndLines.{end_text, settled_text};
 ghost use Rattle.quick_node.specs.Runs.{with_feeds};
 ghost use Rattle.quick_node.specs.Saying.{EndsSaying, IsUnsaid, RunsOn, SaysUpTo, WroteSo};
 
@@ -15,7 +15,6 @@ use crate::writing::write_all;
 use byte_fields::{Bytes, Sink};
 use clock_time::{Clock, ScriptClock};
 use index_world::World;
-use node_run::{ActorEnd, RunEnd, RunOptions, Settled, end_line, run, settled_line};
 use object_store::ObjectStore;
 use root_search::NoHold;
 use run_plan::Request;
@@ -24,6 +23,7 @@ use source_log::SourceLog;
 use std::alloc::{AllocError, Global};
 use std::sync::Wait;
 use std::thread::Threads;
+use thread_run::{ActorEnd, RunEnd, RunOptions, Settled, end_line, run, settled_line};
 
 /// Why a line was not written to its end.
 #[derive(Clone, Copy)]

@@ -34,7 +34,7 @@ use clock_time::{Clock, ScriptClock};
 use command_words::{Command, RunOptions as RunAsked, read_words};
 use index_world::{Unopened, World};
 use input_lines::{ReadEnd, read_requests};
-use node_run::{DriveNode, Logs, RunOptions, Unstarted};
+use node_run::{DriveNode, Logs, Unstarted};
 use object_store::ObjectStore;
 use run_plan::Request;
 use source_log::SourceLog;
@@ -42,6 +42,7 @@ use std::alloc::Global;
 use std::mem;
 use std::sync::Wait;
 use std::thread::Threads;
+use thread_run::RunOptions;
 
 /// How a call of `serve` ended, the store, its count of faults, and the sum of the logs' counts, at most 2 ^ 64 - 1.
 #[derive(Drop)]

@@ -3,7 +3,7 @@ use Rattle.std.specs.Prelude.{Option, Some}
 use Rattle.index_config.specs.declared.config.IndexConfig.{IndexConfig}
 use Rattle.index_world.specs.Configuration.{config_or, configuration}
 use Rattle.index_world.specs.Core.{IsConfigured}
-use Rattle.node_run.proofs.RunCounts.{configured_so}
+use Rattle.thread_run.proofs.RunCounts.{configured_so}
 use Rattle.quick_node.proofs.SaidLines.{says_none, says_by}
 use Rattle.quick_node.specs.Runs.{RunSays, Said}
 use Rattle.quick_node.specs.Saying.{SaysSome, SaysUpTo}

@@ -1,7 +1,7 @@
 use Rattle.std.proofs.Common.{◌++◌, ◌∙◌, ap, append_assoc, flat_map, map, subst, sym}
 use Rattle.std.specs.Prelude.{Some, option_to_list}
 use Rattle.search_api.specs.Replies.{reply_text}
-use Rattle.node_run.specs.EndLines.{end_text, settled_text}
+use Rattle.thread_run.specs.EndLines.{end_text, settled_text}
 use Rattle.quick_node.proofs.SaidLines.{feeds_on, front_behind, front_on, wrote_behind, wrote_front}
 use Rattle.quick_node.specs.Runs.{with_feeds}
 use Rattle.quick_node.specs.Saying.{WroteSo}

@@ -2,7 +2,7 @@ use Rattle.std.proofs.Common.{◌+◌, ◌++◌, [], ◌∷◌, ◌∙◌, ap, a
 use Rattle.std.specs.Option.{option_map}
 use Rattle.std.specs.Prelude.{IsSome, Some, option_to_list}
 use Rattle.std.proofs.lemmas.List.{drop_all}
-use Rattle.node_run.specs.EndLines.{end_text}
+use Rattle.thread_run.specs.EndLines.{end_text}
 use Rattle.quick_node.proofs.SaidLines.{HasSaid, all_said, is_told, next_of_all, next_told, one_more, said_front, some_more, wrote_front}
 use Rattle.quick_node.specs.Runs.{with_feeds}
 use Rattle.quick_node.specs.Serve.{IsPrefixOf}

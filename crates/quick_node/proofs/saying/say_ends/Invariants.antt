@@ -1,7 +1,7 @@
 use Rattle.std.proofs.Common.{◌≡◌, ◌≤◌, ℕ, List, drop, take, flat_map}
 use Rattle.std.specs.List.{AllByRecursion}
 use Rattle.std.specs.Prelude.{Some, IsSome, option_to_list}
-use Rattle.node_run.specs.EndLines.{end_text}
+use Rattle.thread_run.specs.EndLines.{end_text}
 use Rattle.quick_node.proofs.SaidLines.{HasSaid}
 use Rattle.quick_node.specs.Runs.{with_feeds}
 use Rattle.quick_node.proofs.saying.say_ends.Given as goal

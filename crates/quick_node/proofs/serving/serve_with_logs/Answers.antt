@@ -8,7 +8,7 @@ use Rattle.command_words.proofs.Bounds.{run_is_within}
 use Rattle.command_words.proofs.Naming.{names_alone}
 use Rattle.index_world.specs.Core.{last_count}
 use Rattle.node_run.specs.Logs.{logs_in}
-use Rattle.node_run.specs.declared.run_end.RunOptions.{RunOptions as Options}
+use Rattle.thread_run.specs.declared.run_end.RunOptions.{RunOptions as Options}
 use Rattle.quick_node.specs.Causes.{faults_of}
 use Rattle.quick_node.specs.Opening.{outside_of, EndsBy, ReportFinds}
 use Rattle.quick_node.specs.Reporting.{Reports}
