@@ -32,9 +32,8 @@ words = lambda r: "".join(c if c.isalnum() else " " for c in r["body"].lower()).
 print(eval(sys.argv[1]))
 END
 }
-asked() { # the reply line to a request
-    { printf 'client a %s\n' "$1"; yes 'client a' | head -n 300 || true; } | poltyqen drive | grep '^{' | head -n 1
-}
+ran() { poltyqen run --indexers 1 --searchers 1 "$@"; }
+asked() { printf 'a %s\n' "$1" | ran --turns 0 | sed -n 1p; } # the reply line to a request
 field() { python3 -c 'import json, sys; print(eval(sys.argv[1], {"r": json.load(sys.stdin)}))' "$1"; }
 
 mkdir -p demo/store demo/logs
@@ -62,9 +61,7 @@ merge_factor = 3
 END
 same 'create' "$(poltyqen create < demo/config.toml)" created
 same 'create a second time' "$(poltyqen create < demo/config.toml || true)" 'error 9 indexexists'
-yes 'indexer 0' | head -n 100 | poltyqen drive > outcomes || true
-same 'the first steps' "$(head -n 5 outcomes | tr '\n' ';')" 'indexer 0 checkpoint;indexer 0 read 500;indexer 0 staged 1;indexer 0 uploaded 1;indexer 0 published 1;'
-same 'caught up' "$(tail -n 3 outcomes | sort -u | grep -c caughtup)" 1
+same 'a run' "$(ran --turns 0 < /dev/null | tr '\n' ';')" 'indexer 0 caughtup;merger turns;deleter turns;collector turns;'
 lines=$(wc -l < demo/logs/packages)
 same 'describe' "$(poltyqen describe | tail -n 2 | tr '\n' ';')" "docs $(told 'len(records)') rejected $(told 'refused');checkpoint packages $lines;"
 same 'splits' "$(poltyqen splits | wc -l)" "$(((lines + 499) / 500))"
@@ -80,8 +77,9 @@ lines_of() { yes "$1" | head -n "$2" || true; }
 for _ in 1 2 3; do
     head -n 10 demo/logs/packages > more
     cat more >> demo/logs/packages
-    lines_of 'indexer 0' 8 | poltyqen drive > outcomes
-    same 'a small split' "$(grep -c published outcomes)" 1
+    before=$(poltyqen splits | wc -l)
+    ran --turns 0 < /dev/null > outcomes
+    same 'a small split' "$(poltyqen splits | wc -l)" "$((before + 1))"
 done
 small=$(poltyqen splits | awk '$2 == "published" && $4 < 500' | wc -l)
 same 'a search before the merge' "$(asked '{"search":{"query":"*","max_hits":0}}' | field 'r["num_hits"]')" "$(told 'len(records)')"
@@ -96,12 +94,11 @@ same 'the same behind the merge' "$(asked '{"search":{"query":"*","max_hits":0}}
 # A client deletes a section, and a delete worker removes it.
 libs='{"search":{"query":"section:libs","max_hits":0}}'
 gone=$(told 'sum(r["section"] == "libs" for r in records)')
-same 'a delete' "$(printf '%s\n' 'client a {"delete":{"query":"section:libs"}}' 'client a' | poltyqen drive | tail -n 1 | field 'r["opstamp"]')" 1
-same 'found until it is done' "$(asked "$libs" | field 'r["num_hits"]')" "$gone"
+same 'found before the delete' "$(asked "$libs" | field 'r["num_hits"]')" "$gone"
 published=$(poltyqen splits | awk '$2 == "published"' | wc -l)
-lines_of deleter 200 | poltyqen drive > outcomes
-same 'each split is planned' "$(grep -c planned outcomes)" "$published"
-same 'no more to delete' "$(tail -n 1 outcomes)" 'deleter nothing'
+printf '%s\n' 'a {"delete":{"query":"section:libs"}}' | ran --turns 100 --settle > outcomes
+same 'a delete' "$(head -n 1 outcomes | field 'r["opstamp"]')" 1
+same 'settled' "$(tail -n 5 outcomes | tr '\n' ';')" 'indexer 0 caughtup;merger nothing;deleter nothing;collector nothing;settled;'
 same 'what splits says of it' "$(poltyqen splits | awk '$2 == "published"' | grep -c ':0:1')" "$published"
 same 'found no more' "$(asked "$libs" | field 'r["num_hits"]')" 0
 same 'the others are left' "$(asked '{"search":{"query":"*","max_hits":0}}' | field 'r["num_hits"]')" "$(told "len(records) - $gone")"
@@ -110,13 +107,12 @@ same 'the others are left' "$(asked '{"search":{"query":"*","max_hits":0}}' | fi
 cp demo/logs/packages more
 for _ in $(seq 40); do cat more; done >> demo/logs/packages
 for pause in 0.2 0.4 0.6; do
-    "$program" demo/store demo/logs drive < <(yes 'indexer 0') > /dev/null 2>&1 &
+    "$program" demo/store demo/logs run --indexers 1 --searchers 1 --turns 0 < /dev/null > /dev/null 2>&1 &
     sleep "$pause"
     kill -9 $! || true
     wait $! || true
 done
-yes 'indexer 0' | head -n 2000 | poltyqen drive > outcomes || true
-same 'caught up behind the kills' "$(tail -n 20 outcomes | grep -c caughtup | awk '{print ($1 > 0)}')" 1
+same 'caught up behind the kills' "$(ran --turns 0 < /dev/null | head -n 1)" 'indexer 0 caughtup'
 lines=$(wc -l < demo/logs/packages)
 same 'describe behind the kills' "$(poltyqen describe | tail -n 2 | tr '\n' ';')" "docs $(told "len(records) - $gone") rejected $(told 'refused');checkpoint packages $lines;"
 same 'each record once' "$(asked '{"search":{"query":"*","max_hits":0}}' | field 'r["num_hits"]')" "$(told "len(records) - $gone")"

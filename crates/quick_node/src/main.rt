@@ -19,6 +19,7 @@ use crate::serving::serve_with_logs;
 use command_words::{Command, read_words};
 use object_store::{ObjectStore, SteadyStore};
 use real_edge::{FileLog, FolderStore, HostDisk, StdSink, StdSource, SystemClock};
+use run_progress::{CountedStore, EndingSink, Kind, Progress, ProgressClock, count_logs};
 use source_log::{MemoryLog, SourceLog};
 use std::alloc::{AllocError, Global};
 use std::fs::Files;
@@ -83,34 +84,52 @@ fn status_over<
     Rt: Threads + Wait + Sync + Input + Print,
     S: ObjectStore + Reasoned + Send + Drop,
     L: SourceLog + Reasoned + Send,
->(rt: &Rt, system: &HostRuntime, words: &[String], store: S, logs: Vec<L>) -> u8 {
+>(rt: &Rt, system: &HostRuntime, kind: Kind, words: &[String], store: S, logs: Vec<L>) -> u8 {
+    let alloc = system.alloc();
+    let progress = Progress::begin(system, kind, None);
+    let Ok(logs) = count_logs(alloc, logs, &progress) else {
+        return NO_MEMORY;
+    };
     let mut input = StdSource::over(rt.reader());
-    let mut output = StdSink::over(io::writer(rt));
-    let clock = SystemClock::over(system);
+    let mut output = EndingSink::over(StdSink::over(io::writer(rt)), &progress);
     let (finished, logs) = serve_with_logs(
         rt,
-        system.alloc(),
+        alloc,
         words,
-        store,
+        CountedStore::over(store, &progress),
         logs,
-        clock,
+        ProgressClock::over(SystemClock::over(system), &progress),
+        &progress,
         &mut input,
         &mut output,
     );
+    progress.finish();
     let has_told = tell_reason(system, finished.store.first_reason())
         | tell_reason(system, reason_of_logs(&logs))
         | tell_reason(system, input.first_reason())
-        | tell_reason(system, output.first_reason());
+        | tell_reason(system, output.sink().first_reason());
     if !has_told {
         tell_status(system, finished.status);
     }
     finished.status
 }
 
+// How the progress of a command is shown: of a run, as standard error is.
+fn kind_of(system: &HostRuntime, words: &[String]) -> Result<Kind, AllocError> {
+    match read_words(system.alloc(), words)? {
+        Some(Command::Run(asked)) => Ok(Kind::at(&mut system.stderr(), asked.progress)),
+        Some(Command::Create | Command::Drive | Command::Splits | Command::Describe) => {
+            Ok(Kind::Quiet)
+        }
+        None => Ok(Kind::Quiet),
+    }
+}
+
 // The logs that a word names, and the command.
 fn status_with<Rt: Threads + Wait + Sync + Input + Print, S: ObjectStore + Reasoned + Send + Drop>(
     rt: &Rt,
     system: &HostRuntime,
+    kind: Kind,
     log: &str,
     words: &[String],
     store: S,
@@ -118,10 +137,10 @@ fn status_with<Rt: Threads + Wait + Sync + Input + Print, S: ObjectStore + Reaso
     let alloc = system.alloc();
     if log == MEMORY {
         let logs = memory_logs(alloc)?;
-        return Ok(status_over(rt, system, words, store, logs));
+        return Ok(status_over(rt, system, kind, words, store, logs));
     }
     let logs = folder_logs(alloc, system, log)?;
-    Ok(status_over(rt, system, words, store, logs))
+    Ok(status_over(rt, system, kind, words, store, logs))
 }
 
 // Whether the words name a command that writes objects.
@@ -156,14 +175,17 @@ fn status_of<Rt: Threads + Wait + Sync + Input + Print>(
     let alloc = system.alloc();
     let [store, log, command @ ..] = words else {
         let logs = memory_logs(alloc)?;
-        return Ok(status_over(rt, system, &[], SteadyStore::vacant(alloc), logs));
+        let store = SteadyStore::vacant(alloc);
+        return Ok(status_over(rt, system, Kind::Quiet, &[], store, logs));
     };
+    // Standard error is asked before a file is opened.
+    let kind = kind_of(system, command)?;
     if store.as_str() == MEMORY {
         let store = SteadyStore::vacant(alloc);
-        return status_with(rt, system, log.as_str(), command, store);
+        return status_with(rt, system, kind, log.as_str(), command, store);
     }
     let store = folder_store(system, store.as_str(), command)?;
-    status_with(rt, system, log.as_str(), command, store)
+    status_with(rt, system, kind, log.as_str(), command, store)
 }
 
 fn main(rt: HostRuntime) -> ExitCode {

@@ -1,10 +1,12 @@
 //! What is said to a person on standard error. It stands outside of what is promised, and standard output does not change by it.
 
 use node_run::Logs;
-use object_store::SteadyStore;
+use object_store::{ObjectStore, SteadyStore};
 use real_edge::{Disk, FileLog, FolderStore, Reason};
+use run_progress::{CountedLog, CountedStore};
 use source_log::{MemoryLog, SourceLog};
 use std::fs::Files;
+use std::time;
 
 const USAGE: &str = "usage: quick_node STORE LOGS COMMAND
 
@@ -12,6 +14,8 @@ const USAGE: &str = "usage: quick_node STORE LOGS COMMAND
   LOGS      the folder of the logs, a file for each partition and a record on each line, or `memory`
 
   create    makes the index of the configuration on standard input
+  run       --indexers N --searchers N --turns N [--settle] [--progress]
+            lets every actor work at once, and answers the requests on standard input
   drive     does the lines of a schedule on standard input
   splits    writes a line for each split of the index
   describe  writes the index as a whole";
@@ -45,6 +49,18 @@ impl Reasoned for MemoryLog {
     }
 }
 
+impl<'a, S: ObjectStore + Reasoned, R: Eprint + time::Clock> Reasoned for CountedStore<'a, S, R> {
+    fn first_reason(&self) -> Option<&Reason> {
+        self.store().first_reason()
+    }
+}
+
+impl<'a, L: SourceLog + Reasoned, R: Eprint + time::Clock> Reasoned for CountedLog<'a, L, R> {
+    fn first_reason(&self) -> Option<&Reason> {
+        self.log().first_reason()
+    }
+}
+
 /// The first reason of the first log that has one.
 pub fn reason_of_logs<L: SourceLog + Reasoned>(logs: &Logs<L>) -> Option<&Reason> {
     match logs {
@@ -61,7 +77,7 @@ fn sentence_of(status: u8) -> &'static str {
         1 => USAGE,
         2 => "quick_node: the configuration is refused, with the key above",
         3 =>
-            "quick_node: the schedule is refused from the line above on; the lines before it are done",
+            "quick_node: the input is refused from the line above on; of a schedule the lines before it are done, of a run nothing is",
         4 => "quick_node: the store failed",
         5 => "quick_node: standard input failed",
         6 => "quick_node: standard output failed; what was done is done",

@@ -16,7 +16,7 @@ use byte_fields::{Bytes, Sink};
 use clock_time::{Clock, ScriptClock};
 use index_world::World;
 use object_store::ObjectStore;
-use root_search::NoHold;
+use root_search::LeafHold;
 use run_plan::Request;
 use search_api::{Reply, print_reply};
 use source_log::SourceLog;
@@ -161,6 +161,7 @@ pub fn finish<
     S: ObjectStore + Send,
     L: SourceLog + Send,
     C: Clock + Send,
+    H: LeafHold,
     W: Sink,
 >(
     rt: &Rt,
@@ -169,6 +170,7 @@ pub fn finish<
     world: World<S, ScriptClock>,
     logs: Vec<L>,
     clock: C,
+    hold: &H,
     requests: Vec<Request>,
     output: &mut W,
 ) -> Finished<S, L>
@@ -189,7 +191,7 @@ pub fn finish<
         ends,
         settled,
         memory,
-    } = run(rt, alloc, world, clock, logs, requests, options, &NoHold);
+    } = run(rt, alloc, world, clock, logs, requests, options, hold);
     let (store, _) = world.unload();
     let end = if memory {
         End::Memory

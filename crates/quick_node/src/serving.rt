@@ -36,6 +36,7 @@ use index_world::{Unopened, World};
 use input_lines::{ReadEnd, read_requests};
 use node_run::{DriveNode, Logs, Unstarted};
 use object_store::ObjectStore;
+use root_search::{LeafHold, NoHold};
 use run_plan::Request;
 use source_log::SourceLog;
 use std::alloc::Global;
@@ -329,6 +330,7 @@ fn run_requests<
     S: ObjectStore + Send,
     L: SourceLog + Send,
     C: Clock + Send,
+    H: LeafHold,
     W: Sink,
 >(
     rt: &Rt,
@@ -337,6 +339,7 @@ fn run_requests<
     world: World<S, ScriptClock>,
     logs: Vec<L>,
     clock: C,
+    hold: &H,
     requests: Vec<Request>,
     output: &mut W,
 ) -> (Served<S>, Logs<L>)
@@ -353,7 +356,7 @@ fn run_requests<
     ensures log_sum { result.0.log_faults ≡ min (sum (map L.fault_count (logs_in result.1))) last_count }
 {
     let Finished { end, store, logs } = finish(
-        rt, alloc, options, world, logs, clock, requests, output,
+        rt, alloc, options, world, logs, clock, hold, requests, output,
     );
     ended(alloc, store, Logs::Unread(logs), end, output)
 }
@@ -365,6 +368,7 @@ fn run_world<
     S: ObjectStore + Send,
     L: SourceLog + Send,
     C: Clock + Send,
+    H: LeafHold,
     R: Source,
     W: Sink,
 >(
@@ -374,6 +378,7 @@ fn run_world<
     world: World<S, ScriptClock>,
     logs: Vec<L>,
     clock: C,
+    hold: &H,
     input: &mut R,
     output: &mut W,
 ) -> (Served<S>, Logs<L>)
@@ -396,7 +401,9 @@ fn run_world<
         return unused(alloc, world, logs, End::Memory, output);
     };
     match end_of(read) {
-        None => run_requests(rt, alloc, options, world, logs, clock, requests, output),
+        None => run_requests(
+            rt, alloc, options, world, logs, clock, hold, requests, output,
+        ),
         Some(end) => unused(alloc, world, logs, end, output),
     }
 }
@@ -408,6 +415,7 @@ fn run_index<
     S: ObjectStore + Send,
     L: SourceLog + Send,
     C: Clock + Send,
+    H: LeafHold,
     R: Source,
     W: Sink,
 >(
@@ -417,6 +425,7 @@ fn run_index<
     store: S,
     logs: Vec<L>,
     clock: C,
+    hold: &H,
     input: &mut R,
     output: &mut W,
 ) -> (Served<S>, Logs<L>)
@@ -435,7 +444,7 @@ fn run_index<
     ensures log_sum { result.0.log_faults ≡ min (sum (map L.fault_count (logs_in result.1))) last_count }
 {
     match World::load(alloc, store, ScriptClock::at(0)) {
-        Ok(world) => run_world(rt, alloc, options, world, logs, clock, input, output),
+        Ok(world) => run_world(rt, alloc, options, world, logs, clock, hold, input, output),
         Err(unopened) => {
             let Unopened { error, store } = unopened;
             let end = End::NotOpened(error);
@@ -445,7 +454,8 @@ fn run_index<
 }
 
 /// Does the command that the words name. `drive` reads a schedule line by line from the input, and answers each line by a
-/// line of the output. `create` reads a configuration from the input, and makes the index of a store that has none, at the
+/// line of the output. `run` reads all requests, lets every actor work in a thread of its own, and writes the replies and how
+/// each actor ended; `hold` is told of each search and each reply meanwhile. `create` reads a configuration from the input, and makes the index of a store that has none, at the
 /// moment that the clock tells. `splits` writes a line for each split of the index, and `describe` the index as a whole.
 /// Statuses: 0 all lines were answered, an index was made, or a report was written, 1 the words name no command, 2 the input
 /// is no configuration, 3 a line is none, 4 the store failed in opening or making, 5 the input failed, 6 the output failed,
@@ -457,6 +467,7 @@ pub fn serve_with_logs<
     S: ObjectStore + Send,
     L: SourceLog + Send,
     C: Clock + Send,
+    H: LeafHold,
     R: Source,
     W: Sink,
 >(
@@ -466,6 +477,7 @@ pub fn serve_with_logs<
     store: S,
     logs: Vec<L>,
     clock: C,
+    hold: &H,
     input: &mut R,
     output: &mut W,
 ) -> (Served<S>, Logs<L>)
@@ -487,7 +499,7 @@ pub fn serve_with_logs<
             if logs.len() < options.indexers {
                 return refuse(alloc, store, logs, output);
             }
-            run_index(rt, alloc, options, store, logs, clock, input, output)
+            run_index(rt, alloc, options, store, logs, clock, hold, input, output)
         }
         Command::Splits => report(alloc, Report::Splits, store, logs, input, output),
         Command::Describe => report(alloc, Report::Describe, store, logs, input, output),
@@ -518,7 +530,9 @@ pub fn serve<
         (map string_bytes words.now) store logs.items (C.told clock) input.old output.old
         result.store result.store_faults result.log_faults lasts input.new output.new result.status }
 {
-    let (finished, logs) = serve_with_logs(rt, alloc, words, store, logs, clock, input, output);
+    let (finished, logs) = serve_with_logs(
+        rt, alloc, words, store, logs, clock, &NoHold, input, output,
+    );
     mem::drop(logs);
     finished
 }

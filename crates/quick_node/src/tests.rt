@@ -16,6 +16,7 @@ use meta_journal::{Act, Entry, encode_entry, meta_key};
 use object_store::{
     CreateError, GetError, Key, Keys, Landing, ListError, MemoryStore, ObjectStore, Piece,
 };
+use root_search::NoHold;
 use source_checkpoint::Partition;
 use source_log::{FaultyLog, MemoryLog};
 use std::alloc::{AllocError, Global};
@@ -385,6 +386,7 @@ fn done<Rt: Threads + Wait + Sync>(
         held,
         logs,
         clock,
+        &NoHold,
         &mut input,
         &mut output,
     );

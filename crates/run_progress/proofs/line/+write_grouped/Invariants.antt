@@ -1,0 +1,4 @@
+use Rattle.run_progress.proofs.line.+write_grouped.Given as goal
+
+abbrev pub decreases-write_grouped : goal.decreases-write_grouped
+decreases-write_grouped g l = l.commas
