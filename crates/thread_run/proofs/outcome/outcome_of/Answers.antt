@@ -1,8 +1,8 @@
 use Rattle.std.proofs.Common.{◌≡◌, ◌+◌, ◌∷◌, ap, arith, length, subst}
 use Rattle.std.specs.Vec.Iter.{into_iter_items}
-use Rattle.node_run.specs.Outcome.{HasRoom, end_of, indexed_of, served_of}
-use Rattle.node_run.proofs.Loops.{gathered_more, one_given}
-use Rattle.node_run.proofs.outcome.outcome_of.Goals as goal
+use Rattle.thread_run.specs.Outcome.{HasRoom, end_of, indexed_of, served_of}
+use Rattle.thread_run.proofs.Loops.{gathered_more, one_given}
+use Rattle.thread_run.proofs.outcome.outcome_of.Goals as goal
 
 pub loop-done-preserved : goal.loop-done-preserved
 loop-done-preserved g c =

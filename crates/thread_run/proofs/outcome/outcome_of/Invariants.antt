@@ -1,7 +1,7 @@
 use Rattle.std.proofs.Common.{◌≡◌, ◌++◌, length}
 use Rattle.std.specs.Vec.Iter.{into_iter_items}
-use Rattle.node_run.specs.Outcome.{HasRoom, IsOutcome}
-use Rattle.node_run.proofs.outcome.outcome_of.Given as goal
+use Rattle.thread_run.specs.Outcome.{HasRoom, IsOutcome}
+use Rattle.thread_run.proofs.outcome.outcome_of.Given as goal
 
 abbrev pub invariant-loop-done : goal.invariant-loop-done
 invariant-loop-done g l =
