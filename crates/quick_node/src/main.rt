@@ -14,7 +14,7 @@ mod serving;
 mod writing;
 
 use crate::error_line::NO_MEMORY;
-use crate::reasons::{Reasoned, reason_of_logs, tell_reason, tell_status};
+use crate::reasons::{Reasoned, tell_logs, tell_reason, tell_status};
 use crate::serving::serve_with_logs;
 use command_words::{Command, read_words};
 use object_store::{ObjectStore, SteadyStore};
@@ -105,7 +105,7 @@ fn status_over<
     );
     progress.finish();
     let has_told = tell_reason(system, finished.store.first_reason())
-        | tell_reason(system, reason_of_logs(&logs))
+        | tell_logs(system, logs)
         | tell_reason(system, input.first_reason())
         | tell_reason(system, output.sink().first_reason());
     if !has_told {

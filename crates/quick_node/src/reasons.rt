@@ -61,8 +61,8 @@ impl<'a, L: SourceLog + Reasoned, R: Eprint + time::Clock> Reasoned for CountedL
     }
 }
 
-/// The first reason of the first log that has one.
-pub fn reason_of_logs<L: SourceLog + Reasoned>(logs: &Logs<L>) -> Option<&Reason> {
+// The first reason of the first log that has one.
+fn reason_of_logs<L: SourceLog + Reasoned>(logs: &Logs<L>) -> Option<&Reason> {
     match logs {
         Logs::Unread(logs) => logs.iter().find_map(|log| log.first_reason()),
         Logs::Read(indexers) => indexers
@@ -98,6 +98,11 @@ pub fn tell_reason(rt: &HostRuntime, reason: Option<&Reason>) -> bool {
         }
         None => false,
     }
+}
+
+/// Says why a call of the system failed that a log keeps, and lets the logs go. Whether one did.
+pub fn tell_logs<L: SourceLog + Reasoned>(rt: &HostRuntime, logs: Logs<L>) -> bool {
+    tell_reason(rt, reason_of_logs(&logs))
 }
 
 /// Says why a call ended with a status that is not 0, where no call of the system failed.
