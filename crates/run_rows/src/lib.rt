@@ -4,4 +4,8 @@
 #[cfg(test)]
 mod held;
 #[cfg(test)]
+mod making;
+#[cfg(test)]
 mod runs;
+#[cfg(test)]
+mod settled_logs;
