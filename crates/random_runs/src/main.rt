@@ -26,10 +26,16 @@ fn play<Rt: Threads + Wait + Sync>(rt: &Rt, alloc: Global, seed: u64) -> Result<
 }
 
 // Plays some seeds, prints how many were wrong, and adds what they came to.
-fn play_group(rt: &HostRuntime, first: u64, end: u64, counts: &mut Counts) -> io::Result<()> {
+fn play_group<Rt: Threads + Wait + Sync + Print>(
+    rt: &Rt,
+    alloc: Global,
+    first: u64,
+    end: u64,
+    counts: &mut Counts,
+) -> io::Result<()> {
     let mut wrong: u64 = 0;
     for seed in first..end {
-        match play(rt, rt.alloc(), seed) {
+        match play(rt, alloc, seed) {
             Ok(played) => counts.add(&played),
             Err(fault) => {
                 wrong = wrong.saturating_add(1);
@@ -54,7 +60,7 @@ fn main(rt: HostRuntime) -> io::Result<()> {
             break;
         }
         let group_end = next.saturating_add(GROUP).min(end);
-        play_group(&rt, next, group_end, &mut counts)?;
+        play_group(&rt, rt.alloc(), next, group_end, &mut counts)?;
         next = group_end;
     }
     if is_counted {
