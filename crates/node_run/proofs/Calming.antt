@@ -9,7 +9,8 @@ use Rattle.index_world.specs.Calls.{Fate, Call, Effect, done_never, Trouble, no_
 use Rattle.index_world.specs.Core.{Core, file_at, last_count}
 use Rattle.node_run.specs.Calm.{IsStill}
 use Rattle.root_search.specs.Steps.{fetched_each, unless_fault}
-use Rattle.node_run.proofs.CallMoves.{landed_kept, tried_kept, file_by_kept, got_file_same, fetched_moves, each_moves}
+use Rattle.call_laws.proofs.CallMoves.{landed_kept, tried_kept, file_by_kept, got_file_same, fetched_moves}
+use Rattle.node_run.proofs.Fetches.{each_moves}
 
 -- the count is as it was
 abbrev pub Same : Core → Core → Type 0

@@ -15,9 +15,10 @@ use Rattle.split_collector.proofs.Alone.{ended_stays}
 use Rattle.split_collector.proofs.OnePage.{one_page}
 use Rattle.node_run.specs.Calm.{IsStill}
 use Rattle.node_run.specs.Turns.{calm, collecting_luck}
-use Rattle.node_run.proofs.CallMoves.{tried_kept}
+use Rattle.call_laws.proofs.CallMoves.{tried_kept}
 use Rattle.node_run.proofs.Calming.{Same, Calms, asked_still, asking_calms, begun_is, begun_still, calm_risen, count_inside, create_still, file_got_calms, got_still, not_fails, risen_same, short_calms}
-use Rattle.node_run.proofs.CollectorMoves.{alone_moves, answered_same, called_moves, deleted_kept, doomed_kept, unmade_same}
+use Rattle.node_run.proofs.CollectorMoves.{alone_moves, called_moves}
+use Rattle.call_laws.proofs.CollectingMoves.{answered_same, deleted_kept, doomed_kept, unmade_same}
 
 true_is_false : true ≡ false → ⊥
 true_is_false e = cc

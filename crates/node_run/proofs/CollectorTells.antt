@@ -13,7 +13,7 @@ use Rattle.split_collector.specs.Outcomes.{Outcome}
 use Rattle.split_collector.specs.Steps.{CallLuck, CollectorLuck, alone, end_at, ends_behind, failed_with, first_fate, least_left, max_calls, other_fates, outcome_at, outcome_unless, outcomes, page_by, step_collector, turned}
 use Rattle.split_collector.specs.Turns.{Turn, behind_delete, behind_doom, behind_list, counted, ended, next_behind, page_turn, paging, to_doom, to_list, to_mark, to_remove, to_sweep}
 use Rattle.node_run.specs.Telling.{CollectorMayTell}
-use Rattle.node_run.proofs.CallTells.{Gave, IfErr, IsLowCore, IsOwnTrouble, IsSettled, IsStoreTrouble, Keeps, MadeLow, Settles, create_low, get_settles, last_keeps, or_short_own, got_file_own, settled_low, settles, store_not_foreign, taken_low}
+use Rattle.call_laws.proofs.CallTells.{Gave, IfErr, IsLowCore, IsOwnTrouble, IsSettled, IsStoreTrouble, Keeps, MadeLow, Settles, create_low, get_settles, last_keeps, or_short_own, got_file_own, settled_low, settles, store_not_foreign, taken_low}
 use Rattle.node_run.proofs.OwnEntries.{IsLawful, IsNoRefusal, doom_lawfully, list_lawfully, mark_stale_fair, remove_fair, sweep_lawfully}
 
 -- ---- an entry where the state offers one

@@ -26,7 +26,8 @@ use Rattle.upkeep_run.specs.declared.work.Aim.{Aim}
 use Rattle.upkeep_run.specs.declared.work.Aim.TheVariants.{Deleting, Merging}
 use Rattle.node_run.specs.Node.{Node, Line, At, Assign, StepIndexer, RestartIndexer, RestartClient, StepMerger, RestartMerger, StepDeleter, RestartDeleter, StepCollector, RestartCollector, RestartNode, Open, StepClient, Outcome}
 use Rattle.node_run.specs.Turns.{LineLuck, Turned, indexer_at, indexing_luck, searching_luck, assign_at, indexer_turn_by, client_turn_by, client_named, working_luck, worker_turn_by, with_deleter, with_merger, collecting_luck, collector_turn_by, open_by, restart_by, full_turn, quiet, or_quiet, turn_by, Turn, Turns}
-use Rattle.node_run.proofs.CallMoves.{Later, Moves, same, stays, later_same, later_on, moves_on, appended_moves, looked_moves, asked_and_looked_moves, asked_moves, file_made_moves, each_moves, loaded_moves}
+use Rattle.call_laws.proofs.CallMoves.{Later, Moves, same, stays, later_same, later_on, moves_on, appended_moves, looked_moves, asked_and_looked_moves, asked_moves, file_made_moves, loaded_moves}
+use Rattle.node_run.proofs.Fetches.{each_moves}
 use Rattle.node_run.proofs.CollectorMoves.{collector_moves}
 use Rattle.node_run.proofs.WorkerMoves.{worker_moves}
 

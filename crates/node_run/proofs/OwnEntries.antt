@@ -50,7 +50,7 @@ use Rattle.index_world.proofs.StoreKeys.{meta_begins, meta_key-injective, none_s
 use Rattle.index_world.proofs.Taken.{legal_unread}
 use Rattle.index_world.proofs.Timely.{free_later, frees_later, frees_taken}
 use Rattle.index_world.proofs.Worlds.{journal_is_history}
-use Rattle.node_run.proofs.CallTells.{Gave, IsLow, IsLowCore, begun_history as begun_entries, called_low, taken_low}
+use Rattle.call_laws.proofs.CallTells.{Gave, IsLow, IsLowCore, begun_history as begun_entries, called_low, taken_low}
 
 -- ---- the core
 

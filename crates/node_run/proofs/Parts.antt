@@ -60,7 +60,7 @@ use Rattle.node_run.specs.Turns.{restart_by, LineLuck, calm, Turn, Turned, turne
 use Rattle.node_run.proofs.Telling.{stands_own}
 use Rattle.node_run.proofs.Names.{with_with, named_set}
 use Rattle.node_run.proofs.Places.{names_with, names_without}
-use Rattle.node_run.proofs.CallMoves.{loaded_moves}
+use Rattle.call_laws.proofs.CallMoves.{loaded_moves}
 use Rattle.node_run.proofs.CollectorMoves.{collector_moves}
 use Rattle.node_run.proofs.Moving.{indexer_moves, client_moves}
 use Rattle.node_run.proofs.Workers.{all_idle_other, idle_work_apart, idle_other, idle_worker_over, other_at, other_of_indexer, set_other, worker_goes_on, worker_staged}

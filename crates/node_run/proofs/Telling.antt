@@ -42,10 +42,12 @@ use Rattle.upkeep_run.specs.declared.work.Aim.{Aim}
 use Rattle.upkeep_run.specs.declared.work.Aim.TheVariants.{Deleting, Merging}
 use Rattle.upkeep_run.specs.declared.work.WorkerPlace.{WorkerPlace as WorkerPlace}
 use Rattle.node_run.specs.Node.{Node, Line, At, Assign, StepIndexer, RestartIndexer, RestartClient, StepMerger, RestartMerger, StepDeleter, RestartDeleter, StepCollector, RestartCollector, RestartNode, Open, StepClient, Outcome}
-use Rattle.node_run.specs.Telling.{IndexerMayTell, IsOfText, RefusalMayTell, SearchMayTell, LineMayTell}
+use Rattle.node_run.specs.Telling.{IndexerMayTell, RefusalMayTell, SearchMayTell, LineMayTell}
+use Rattle.request_laws.specs.OfText.{IsOfText, OfText}
 use Rattle.node_run.specs.Turns.{LineLuck, Turned, indexer_or, indexer_at, indexing_luck, searching_luck, said_by_indexer, said_by_client, assign_at, indexer_turn_by, client_turn_by, client_named, working_luck, said_by_worker, worker_turn_by, with_deleter, with_merger, collecting_luck, collector_turn_by, said_by_collector, open_by, restart_by, full_turn, or_quiet, turn_by, Turn}
-use Rattle.node_run.proofs.Refusals.{OfText, asked_of_text, text_may, answer_may}
-use Rattle.node_run.proofs.CallTells.{AreLow, IsStoreTrouble, IsOwnTrouble, IfErr, appended_own, file_own, copied_own, asked_and_looked_own, asked_own, IsFetchTrouble, each_own, IsStoreUnread, load_own, IsFree, store_not_foreign}
+use Rattle.node_run.proofs.Refusals.{asked_of_text, text_may, answer_may}
+use Rattle.call_laws.proofs.CallTells.{AreLow, IsStoreTrouble, IsOwnTrouble, IfErr, appended_own, file_own, copied_own, asked_and_looked_own, asked_own, IsFetchTrouble, IsStoreUnread, load_own, IsFree, store_not_foreign}
+use Rattle.node_run.proofs.Fetches.{each_own}
 use Rattle.node_run.proofs.CollectorTells.{Tells, collector_tells}
 use Rattle.node_run.proofs.WorkerTells.{WorkTells, WorkerIsFree, worker_free, worker_tells}
 use Rattle.node_run.proofs.OwnEntries.{IsLawful, world_lawful}

@@ -12,7 +12,7 @@ use Rattle.upkeep_run.specs.Places.{WorkerHeld, WorkerPlace, Work, fetching, hel
 use Rattle.upkeep_run.specs.Steps.{WorkerLuck, Stepped, drops_none, fetch_by, first_number, grace_in, held_of, or_short, plan_by, plan_with, raise_by, replace_by, rows_in, stage_by, step_close, step_place, step_raise, step_stage, step_work, step_worker, upload_by, work_in}
 use Rattle.upkeep_run.specs.declared.work.Aim.{Aim}
 use Rattle.upkeep_run.specs.declared.work.Aim.TheVariants.{Deleting, Merging}
-use Rattle.node_run.proofs.CallMoves.{Moves, same, moves_on, appended_moves, asked_and_looked_moves, fetched_moves, file_made_moves}
+use Rattle.call_laws.proofs.CallMoves.{Moves, same, moves_on, appended_moves, asked_and_looked_moves, fetched_moves, file_made_moves}
 
 -- ---- what is told of a call leaves the core as it is
 

@@ -16,8 +16,9 @@ use Rattle.upkeep_run.specs.declared.work.Aim.{Aim}
 use Rattle.upkeep_run.specs.declared.work.Aim.TheVariants.{Deleting, Merging}
 use Rattle.upkeep_run.specs.declared.work.WorkerPlace.{WorkerPlace as HeldPlace}
 use Rattle.upkeep_run.specs.declared.work.WorkerPlace.TheVariants as places
-use Rattle.node_run.specs.Telling.{IsNotForeign, IsOfStore, IsOfWork, WorkerMayTell}
-use Rattle.node_run.proofs.CallTells.{AreLow, IfErr, IsFetchTrouble, IsFree, IsOwnTrouble, IsStoreTrouble, appended_own, asked_and_looked_own, fetched_own, file_own}
+use Rattle.call_laws.specs.Faults.{IsNotForeign, IsOfStore}
+use Rattle.node_run.specs.Telling.{IsOfWork, WorkerMayTell}
+use Rattle.call_laws.proofs.CallTells.{AreLow, IfErr, IsFetchTrouble, IsFree, IsOwnTrouble, IsStoreTrouble, appended_own, asked_and_looked_own, fetched_own, file_own}
 
 abbrev pub WorkTells : Aim → Option UpkeepOutcome → Type 0
 WorkTells aim None = Unit {0}

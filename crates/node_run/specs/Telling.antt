@@ -3,6 +3,7 @@
 -- comes too late.
 use Rattle.std.specs.Prelude.{Option, Some, None}
 use Rattle.index_world.specs.Calls.{Fault, store_fault, is_foreign, is_full, is_expired}
+use Rattle.call_laws.specs.Faults.{IsNotForeign, IsOfStore}
 use Rattle.indexing_run.specs.Outcomes.{IndexerOutcome}
 use Rattle.indexing_run.specs.Outcomes as indexing
 use Rattle.root_search.specs.declared.outcome.SearchStep.{SearchStep}
@@ -11,6 +12,7 @@ use Rattle.search_api.specs.declared.reply.Refusal.{Refusal}
 use Rattle.search_api.specs.declared.reply.Refusal.TheVariants as refusals
 use Rattle.search_api.specs.declared.reply.Said.{Said}
 use Rattle.search_api.specs.declared.reply.Said.TheVariants.{Found, Deleted, Refused}
+use Rattle.request_laws.specs.OfText.{IsOfText}
 use Rattle.split_collector.specs.Outcomes.{Outcome as CollectorOutcome}
 use Rattle.split_collector.specs.Outcomes as collecting
 use Rattle.upkeep_run.specs.Outcomes.{UpkeepOutcome}
@@ -18,19 +20,6 @@ use Rattle.upkeep_run.specs.Outcomes as working
 use Rattle.upkeep_run.specs.declared.work.Aim.{Aim}
 use Rattle.upkeep_run.specs.declared.work.Aim.TheVariants.{Merging, Deleting}
 use Rattle.node_run.specs.Node.{NodeFault, world_fault, no_index, Outcome, at_said, assigned, indexer_busy, indexer_said, indexer_down, indexer_restarted, client_restarted, worker_said, worker_down, worker_restarted, collector_said, collector_down, collector_restarted, node_restarted, node_failed, request_opened, request_busy, client_said, client_down}
-
--- the store failed
-abbrev pub IsOfStore : Fault → Type 0
-IsOfStore (store_fault before after) = Unit {0}
-IsOfStore (is_foreign key) = ⊥
-IsOfStore is_full = ⊥
-IsOfStore (is_expired planned_at now) = ⊥
-
-abbrev pub IsNotForeign : Fault → Type 0
-IsNotForeign (store_fault before after) = Unit {0}
-IsNotForeign (is_foreign key) = ⊥
-IsNotForeign is_full = Unit {0}
-IsNotForeign (is_expired planned_at now) = ⊥
 
 abbrev pub IndexerMayTell : IndexerOutcome → Type 0
 IndexerMayTell indexing.Checkpoint = Unit {0}
@@ -78,32 +67,6 @@ CollectorMayTell (collecting.Swept number) = Unit {0}
 CollectorMayTell collecting.Nothing = Unit {0}
 CollectorMayTell (collecting.Refused refusal) = ⊥
 CollectorMayTell (collecting.Faulted fault) = IsNotForeign fault
-
--- what a text asks is refused, or what it counts has too many buckets: nothing failed
-abbrev pub IsOfText : Refusal → Type 0
-IsOfText refusals.NotJson = Unit {0}
-IsOfText (refusals.UnknownKey name) = Unit {0}
-IsOfText (refusals.WrongKind name) = Unit {0}
-IsOfText (refusals.MissingKey name) = Unit {0}
-IsOfText (refusals.TooManyHits wanted) = Unit {0}
-IsOfText (refusals.UnknownField name) = Unit {0}
-IsOfText (refusals.NotFast field) = Unit {0}
-IsOfText refusals.NoTimestampField = Unit {0}
-IsOfText (refusals.Syntax place) = Unit {0}
-IsOfText (refusals.TooDeep place) = Unit {0}
-IsOfText (refusals.NotIndexed place) = Unit {0}
-IsOfText (refusals.BadValue place) = Unit {0}
-IsOfText (refusals.NoDefaultField place) = Unit {0}
-IsOfText (refusals.NoPositions place) = Unit {0}
-IsOfText (refusals.BadInterval name) = Unit {0}
-IsOfText (refusals.TooManyBuckets count) = Unit {0}
-IsOfText (refusals.Expired planned_at now) = ⊥
-IsOfText (refusals.StoreFault before after) = ⊥
-IsOfText (refusals.Missing key) = ⊥
-IsOfText (refusals.Corrupt key) = ⊥
-IsOfText (refusals.Foreign key) = ⊥
-IsOfText (refusals.TooManyTasks count) = ⊥
-IsOfText refusals.Full = ⊥
 
 -- the store failed, a plan's files may be gone, there is no room for the task of a delete, or the text is refused
 abbrev pub RefusalMayTell : Refusal → Type 0

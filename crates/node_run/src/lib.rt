@@ -1,50 +1,14 @@
 //! The lines of a schedule, and a node that takes one of them at a time.
 #![tactic(auto)]
 
-mod actor;
-mod beginning;
-mod closing;
-mod crew;
 mod drive;
-mod end_lines;
-mod ending;
-mod filling;
-mod job;
 pub mod laws;
 mod line;
 mod logs;
 mod out_line;
-mod outcome;
-mod passes;
 mod pieces;
-mod planning;
-mod replying;
-mod room;
-mod run_end;
-mod run_laws;
-mod serving;
-mod settling;
-mod sharing;
-mod sources;
-mod staffing;
-mod threads;
-mod turning;
-mod unsettled;
 
-pub use beginning::{Begun, indexers_of};
-pub use crew::{Apart, run_together};
 pub use drive::{Accepts, DriveNode, MAX_CLIENTS, Unstarted};
-pub use end_lines::{ActorEnd, end_line, settled_line};
-pub use job::{Done, Job, do_job};
 pub use line::{Line, LineError, read_line};
 pub use logs::Logs;
 pub use out_line::OutLine;
-pub use passes::join_all;
-pub use planning::{Plan, planned};
-pub use run_end::{RunEnd, RunOptions};
-pub use run_laws::{calls_are_seen, calm_says, job_says, run_says};
-pub use settling::{Settled, settle, settles_wholly};
-pub use sharing::shared_out;
-pub use sources::Sources;
-pub use threads::run;
-pub use unsettled::run_unsettled;

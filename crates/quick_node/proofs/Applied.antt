@@ -27,7 +27,7 @@ use Rattle.upkeep_run.specs.Steps.{WorkerLuck, Stepped, drops_none, fetch_by, fi
 use Rattle.upkeep_run.specs.declared.work.Aim.TheVariants.{Merging, Deleting}
 use Rattle.node_run.specs.Node.{Node, Line, Outcome, worker_said, worker_restarted, node_restarted, node_failed}
 use Rattle.node_run.specs.Turns.{Turns}
-use Rattle.node_run.proofs.CallMoves.{Grows}
+use Rattle.call_laws.proofs.CallMoves.{Grows}
 use Rattle.node_run.proofs.Moving.{turn_later, turns_later}
 use Rattle.node_run.proofs.WorkerMoves.{fetched_same, planned_same, raised_same, replaced_same, staged_same, uploaded_same}
 use Rattle.quick_node.specs.Applies.{Applied, Applies, AppliesFrom, Applying, IsApplied, IsLost, IsRaising, IsUnraised, Progress, Settled, Settles, SettlesFrom, behind_at, last_task}

@@ -8,7 +8,7 @@ use Rattle.index_world.specs.Calls.{loaded}
 use Rattle.index_world.specs.Core.{Core}
 use Rattle.upkeep_run.specs.Places.{idle}
 use Rattle.node_run.specs.Node.{Node, Line, At, Assign, StepIndexer, RestartIndexer, RestartClient, StepMerger, RestartMerger, StepDeleter, RestartDeleter, StepCollector, RestartCollector, RestartNode, Open, StepClient, Outcome}
-use Rattle.node_run.proofs.CallMoves.{Moves}
+use Rattle.call_laws.proofs.CallMoves.{Moves}
 use Rattle.node_run.proofs.Moving.{turn_later}
 use Rattle.quick_node.specs.Reading.{Ending, stopped, ReadsFrom, fit_if, fit_of, fits, falls_or_unknown, last_moment, raw_lines}
 use Rattle.quick_node.specs.Serve.{IsPrefixOf, Before, After, End, by_reading, no_index, opening_failed, read_failed, write_failed, out_of_memory, HasEnd, IsFresh, Answers, RanShort, Lives}

@@ -22,7 +22,7 @@ use Rattle.node_run.specs.Turns.{Turns, turns, reader_of, Opening}
 use Rattle.node_run.proofs.Calming.{Calms}
 use Rattle.node_run.proofs.CalmSteps.{loaded_calms}
 use Rattle.node_run.proofs.CalmTurns.{count_between, calm_turns}
-use Rattle.node_run.proofs.CallMoves.{Grows}
+use Rattle.call_laws.proofs.CallMoves.{Grows}
 use Rattle.node_run.proofs.Moving.{turn_later, turns_later}
 use Rattle.node_run.proofs.StagedNumbers.{numbers_grow}
 use Rattle.node_run.proofs.LogCounts.{NoneFell, none_rose, turn_counted, turns_counted}

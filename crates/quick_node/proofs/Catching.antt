@@ -37,7 +37,7 @@ use Rattle.node_run.specs.Node.{Node, Line, At, Assign, StepIndexer, RestartInde
 use Rattle.root_search.specs.Steps.{Request, no_request, opened, planned, Client}
 use Rattle.root_search.specs.declared.outcome.SearchStep.{SearchStep}
 use Rattle.split_collector.specs.Outcomes.{Outcome as CollectorOutcome}
-use Rattle.node_run.proofs.CallMoves.{Grows}
+use Rattle.call_laws.proofs.CallMoves.{Grows}
 use Rattle.node_run.proofs.Moving.{turn_later, turns_later}
 use Rattle.node_run.specs.Turns.{reader_of, said_by_client, said_by_collector, LineLuck, Turned, turned, indexer_at, with_indexer, made_idle, indexing_luck, said_by_indexer, assign_at, indexer_turn_by, client_turn_by, client_named, collector_turn_by, open_by, restart_by, full_turn, quiet, or_quiet, turn_by, Turn, Turns, said_by_worker, worker_turn_by, with_deleter, with_merger}
 use Rattle.quick_node.specs.CaughtUp.{IfHere, Seen, unseen, after_said, after_line, AreEnds, SaidAtEnds, LineAtEnds, CatchesUp}

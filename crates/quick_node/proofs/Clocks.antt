@@ -5,7 +5,7 @@ use Rattle.index_world.specs.Calls.{loaded}
 use Rattle.upkeep_run.specs.declared.work.Aim.TheVariants.{Deleting, Merging}
 use Rattle.node_run.specs.Node.{Node, Line, At, Assign, StepIndexer, RestartIndexer, RestartClient, StepMerger, RestartMerger, StepDeleter, RestartDeleter, StepCollector, RestartCollector, RestartNode, Open, StepClient, Outcome}
 use Rattle.node_run.specs.Turns.{LineLuck, indexer_at, client_named, with_deleter, with_merger, full_turn, or_quiet, turn_by, Turn}
-use Rattle.node_run.proofs.CallMoves.{loaded_moves}
+use Rattle.call_laws.proofs.CallMoves.{loaded_moves}
 use Rattle.node_run.proofs.Moving.{assign_same, open_same, restart_same, indexer_turn_moves, client_turn_moves, worker_turn_moves, collector_turn_moves}
 use Rattle.quick_node.specs.Reading.{last_moment}
 

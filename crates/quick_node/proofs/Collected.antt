@@ -38,7 +38,7 @@ use Rattle.index_world.proofs.StoreKeys.{none_some, true_is_false}
 use Rattle.split_collector.specs.Outcomes.{Outcome, MarkedStale, Doomed, Removed}
 use Rattle.split_collector.specs.Steps.{CallLuck, CollectorLuck, Stand, alone, end_at, ends_behind, failed_with, first_fate, least_left, max_calls, other_fates, outcome_at, outcome_unless, outcomes, page_by, step_collector, turned}
 use Rattle.split_collector.specs.Turns.{Turn, behind_delete, behind_doom, behind_list, counted, ended, next_behind, page_turn, paging, to_doom, to_list, to_mark, to_remove, to_sweep}
-use Rattle.node_run.proofs.CallTells.{AreLow}
+use Rattle.call_laws.proofs.CallTells.{AreLow}
 use Rattle.quick_node.specs.Collects.{DidBetween}
 use Rattle.quick_node.proofs.CollectorKeeps.{Appended, Counts, Idle, IsMarks, IsRemovals, Ready, begins_tried, begun_idle, idle_tried, removal_fits, same_asked, stale_fits, takes_few, takes_one}
 use Rattle.quick_node.proofs.Files.{Few, Freed, Grown, Leaves, One, Still, Takes, before, begun_still, grown_on, leaves_of, one_few, same_journal, takes_none, weaker}

@@ -19,8 +19,8 @@ use Rattle.index_world.specs.Onward.{SameLife}
 use Rattle.index_world.proofs.Lasting.{taken-append}
 use Rattle.index_world.proofs.StoreKeys.{none_some, true_is_false}
 use Rattle.index_world.proofs.Worlds.{same-landed}
-use Rattle.node_run.proofs.CallTells.{AreLow, Gave, begun_low, landed_none}
-use Rattle.node_run.proofs.CollectorMoves.{answered_same, unmade_same}
+use Rattle.call_laws.proofs.CallTells.{AreLow, Gave, begun_low, landed_none}
+use Rattle.call_laws.proofs.CollectingMoves.{answered_same, unmade_same}
 use Rattle.quick_node.proofs.Files.{Few, Fits, Grown, IsOwn, IsTimed, One, Stay, Still, Takes, and_own, before, begun_some, begun_still, behind, comes, create_fits, create_still, get_one, grown_on, last_own, one_few, same, same_journal, settled_one, taken_journal, taken_own, takes_none, timed_asked, timed_taken, weaker}
 
 -- whatever an error is

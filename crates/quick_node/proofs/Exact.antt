@@ -9,7 +9,7 @@ use Rattle.index_world.specs.Calls.{Fate, Call, Fault, store_fault, faulted, no_
 use Rattle.index_world.specs.Calls as calls
 use Rattle.index_world.specs.Core.{Core, Late, late_entry, late_dead, late_file, file_at, last_count}
 use Rattle.node_run.specs.Node.{Node, Line, Outcome}
-use Rattle.node_run.proofs.CallMoves.{Grows, moves_on, begun_moves, journal_moves}
+use Rattle.call_laws.proofs.CallMoves.{Grows, moves_on, begun_moves, journal_moves}
 use Rattle.quick_node.specs.Reading.{Ending, stopped, Reads}
 use Rattle.quick_node.specs.Serve.{Before, After, End, by_reading, no_index, opening_failed, read_failed, write_failed, out_of_memory, status_of, reading_status, HasEnd, StoodStill, IsCalm, IsFresh, Opens, Lives, IsShown}
 use Rattle.quick_node.proofs.InOneWay.{reads_in_one_way}

@@ -43,12 +43,12 @@ use Rattle.upkeep_run.specs.Places as workers
 use Rattle.upkeep_run.specs.declared.work.Aim.{Aim}
 use Rattle.upkeep_run.specs.declared.work.Aim.TheVariants.{Deleting, Merging}
 use Rattle.node_run.specs.Node.{Node, Line, At, Assign, StepIndexer, RestartIndexer, RestartClient, StepMerger, RestartMerger, StepDeleter, RestartDeleter, StepCollector, RestartCollector, RestartNode, Open, StepClient, Outcome}
-use Rattle.node_run.specs.Telling.{IsOfText}
+use Rattle.request_laws.specs.OfText.{IsOfText, OfText}
 use Rattle.node_run.specs.Turns as node_turns
 use Rattle.node_run.specs.Turns.{Turned, Turn, Turns, assign_at, client_named, client_turn_by, collector_turn_by, full_turn, indexer_at, indexer_turn_by, open_by, or_quiet, restart_by, said_by_client, said_by_collector, said_by_indexer, said_by_worker, searching_luck, turn_by, with_client, with_deleter, with_merger, worker_turn_by, working_luck}
-use Rattle.node_run.proofs.CallTells.{IfErr, IsStoreTrouble, asked_and_looked_own}
+use Rattle.call_laws.proofs.CallTells.{IfErr, IsStoreTrouble, asked_and_looked_own}
 use Rattle.node_run.proofs.Moving.{plan_same, turn_later, turns_later}
-use Rattle.node_run.proofs.Refusals.{OfText, asked_of_text}
+use Rattle.node_run.proofs.Refusals.{asked_of_text}
 use Rattle.quick_node.specs.Expires.{ExpiresOver, IsOver, SaidIsOver}
 use Rattle.quick_node.specs.Serve.{IsPrefixOf, Before, End, by_reading, no_index, opening_failed, read_failed, write_failed, out_of_memory, IsFresh, Answers, RanShort, Lives}
 use Rattle.quick_node.proofs.Lateness.{IsLate, IsOnTime, MadeOnTime, WorkOver, WorkerKeeps, appended_timely, fetched_late, worker_keeps}

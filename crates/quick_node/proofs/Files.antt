@@ -35,7 +35,7 @@ use Rattle.root_search.specs.Steps as searching
 use Rattle.root_search.proofs.Steps.{delete_core}
 use Rattle.search_api.specs.Resolved.{Asked, IsDelete, IsSearch, Search}
 use Rattle.search_api.specs.declared.unanswered.Unanswered.{Unanswered}
-use Rattle.node_run.proofs.CallMoves.{got_file_same}
+use Rattle.call_laws.proofs.CallMoves.{got_file_same}
 use Rattle.node_run.proofs.Moving.{checkpoints_same, stage_same, upload_same, publish_same, given_same, plan_same, fetch_same}
 
 -- ---- files that stay

@@ -19,7 +19,7 @@ use Rattle.upkeep_run.specs.Places.{WorkerHeld, WorkerPlace, Work, fetching, hel
 use Rattle.upkeep_run.specs.Steps.{WorkerLuck, Stepped, config_in, drops_none, fetch_by, first_number, grace_in, held_of, or_short as or_unsaid, plan_by, plan_with, raise_by, replace_by, rows_in, stage_by, step_close, step_place, step_raise, step_stage, step_work, step_worker, trouble_outcome, upload_by, work_in}
 use Rattle.upkeep_run.specs.declared.work.Aim.{Aim}
 use Rattle.upkeep_run.specs.declared.work.Aim.TheVariants.{Deleting, Merging}
-use Rattle.node_run.proofs.CallTells.{IfErr, IsStoreTrouble, asked_and_looked_own, got_own, settle_own}
+use Rattle.call_laws.proofs.CallTells.{IfErr, IsStoreTrouble, asked_and_looked_own, got_own, settle_own}
 use Rattle.node_run.proofs.WorkerMoves.{planned_same}
 use Rattle.quick_node.specs.Expires.{WorkIsOver}
 

@@ -19,7 +19,7 @@ use Rattle.upkeep_run.specs.declared.work.Aim.{Aim}
 use Rattle.upkeep_run.specs.declared.work.Aim.TheVariants.{Deleting, Merging}
 use Rattle.node_run.specs.Node.{Node, Line, At, Assign, StepIndexer, RestartIndexer, RestartClient, StepMerger, RestartMerger, StepDeleter, RestartDeleter, StepCollector, RestartCollector, RestartNode, Open, StepClient, Outcome}
 use Rattle.node_run.specs.Turns.{LineLuck, Turned, indexer_at, indexing_luck, searching_luck, collecting_luck, said_by_indexer, said_by_client, said_by_collector, said_by_worker, working_luck, with_deleter, with_merger, worker_turn_by, assign_at, indexer_turn_by, client_turn_by, collector_turn_by, client_named, open_by, restart_by, full_turn, quiet, or_quiet, turn_by, Turn}
-use Rattle.node_run.proofs.CallTells.{AreLow}
+use Rattle.call_laws.proofs.CallTells.{AreLow}
 use Rattle.node_run.proofs.Moving.{assign_same, open_same, restart_same}
 use Rattle.quick_node.specs.Collects.{LineCollects}
 use Rattle.quick_node.proofs.Collected.{Did, collector_steps}

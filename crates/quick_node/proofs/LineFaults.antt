@@ -43,8 +43,8 @@ use Rattle.upkeep_run.specs.declared.work.Aim.{Aim}
 use Rattle.upkeep_run.specs.declared.work.Aim.TheVariants.{Deleting, Merging}
 use Rattle.node_run.specs.Node.{Node, Line, At, Assign, StepIndexer, RestartIndexer, RestartClient, StepMerger, RestartMerger, StepDeleter, RestartDeleter, StepCollector, RestartCollector, RestartNode, Open, StepClient, Outcome}
 use Rattle.node_run.specs.Turns.{LineLuck, Turned, indexer_at, indexing_luck, searching_luck, said_by_indexer, said_by_client, said_by_collector, assign_at, indexer_turn_by, client_turn_by, client_named, collecting_luck, collector_turn_by, open_by, restart_by, full_turn, quiet, or_quiet, turn_by, Turn, Turns, working_luck, said_by_worker, worker_turn_by, with_deleter, with_merger}
-use Rattle.node_run.proofs.Refusals.{OfText, asked_of_text}
-use Rattle.node_run.specs.Telling.{IsOfText}
+use Rattle.request_laws.specs.OfText.{IsOfText, OfText}
+use Rattle.node_run.proofs.Refusals.{asked_of_text}
 use Rattle.quick_node.specs.Faults.{Interval, AreBetween, indexer_told, refusal_told, said_told, search_told, store_told}
 use Rattle.quick_node.proofs.FaultCalls.{trouble_told, unmade_told, unread_told, answer_told, Good, Says, as_given, lower, appended_good, looked_good, asked_and_looked_good, asked_good, file_good, each_good, loaded_good}
 use Rattle.quick_node.proofs.CollectorFaults.{by_collector, collector_says}

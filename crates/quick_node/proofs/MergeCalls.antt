@@ -54,7 +54,7 @@ use Rattle.index_world.proofs.Configured.{configured_read}
 use Rattle.index_world.proofs.InHand.{HasStaged-new}
 use Rattle.index_world.proofs.Numbers.{revision_is}
 use Rattle.index_world.proofs.StoreKeys.{none_some}
-use Rattle.node_run.proofs.CallMoves.{Grows, get_moves, grows_on, settled_moves, same_grows, troubled_moves}
+use Rattle.call_laws.proofs.CallMoves.{Grows, get_moves, grows_on, settled_moves, same_grows, troubled_moves}
 use Rattle.upkeep_run.proofs.Idling.{merge_none}
 use Rattle.upkeep_run.proofs.PlannedRows.{FitIf, least_fit, named}
 use Rattle.upkeep_run.specs.Places.{row_numbers}

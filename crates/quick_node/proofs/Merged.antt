@@ -25,7 +25,7 @@ use Rattle.upkeep_run.specs.Steps.{WorkerLuck, Stepped, fetch_by, grace_in, held
 use Rattle.upkeep_run.specs.declared.work.Aim.TheVariants.{Merging, Deleting}
 use Rattle.node_run.specs.Node.{Node, Line, Outcome, worker_said, worker_restarted, node_restarted, node_failed}
 use Rattle.node_run.specs.Turns.{Turns}
-use Rattle.node_run.proofs.CallMoves.{Grows, asked_and_looked_moves}
+use Rattle.call_laws.proofs.CallMoves.{Grows, asked_and_looked_moves}
 use Rattle.node_run.proofs.Moving.{turn_later, turns_later}
 use Rattle.node_run.proofs.WorkerMoves.{fetched_same, planned_same, replaced_same, staged_same, uploaded_same}
 use Rattle.quick_node.specs.Replaces.{IsHindered, Merge, Merged, Replaces, ReplacesFrom, Rested, Rests, RestsFrom, chosen_at, chosen_by}

@@ -9,7 +9,7 @@ use Rattle.index_world.specs.Config.{reads}
 use Rattle.index_world.specs.Core.{Core}
 use Rattle.node_run.specs.Node.{Node, Line, Outcome}
 use Rattle.node_run.specs.Turns.{Turn}
-use Rattle.node_run.proofs.CallMoves.{Grows, same_grows, grows_on, Moves, loaded_moves}
+use Rattle.call_laws.proofs.CallMoves.{Grows, same_grows, grows_on, Moves, loaded_moves}
 use Rattle.node_run.proofs.Moving.{turn_later, turns_later, turns_go_on}
 use Rattle.quick_node.specs.Deletes.{DeletesFrom}
 use Rattle.quick_node.specs.Serve.{IsPrefixOf, Before, End, by_reading, no_index, opening_failed, read_failed, write_failed, out_of_memory, IsFresh, Opens, Answers, Unopened, RanShort, Lives, AnswersFrom}

@@ -52,7 +52,7 @@ use Rattle.node_run.specs.declared.drive.DriveNode.{DriveNode}
 use Rattle.node_run.specs.Node.{Node, Line, Outcome}
 use Rattle.node_run.specs.Standing.{NodeStands}
 use Rattle.node_run.specs.Turns.{Turn}
-use Rattle.node_run.proofs.CallTells.{IsLow}
+use Rattle.call_laws.proofs.CallTells.{IsLow}
 use Rattle.split_bundle.specs.declared.placed.Placed.{Placed}
 use Rattle.quick_node.specs.Collects.{LineCollects}
 use Rattle.quick_node.specs.Once.{published as shown_rows, held_at, IsGivenUpKey, IsStanding, AreStanding, Reaches}

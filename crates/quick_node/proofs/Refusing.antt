@@ -50,14 +50,15 @@ use Rattle.root_search.proofs.TaskReads.{asked_reads}
 use Rattle.node_run.specs.Node.{Node, Line, StepClient, Outcome, client_down, client_said}
 use Rattle.node_run.specs.Telling.{MayTell, SaidMayTell}
 use Rattle.node_run.specs.Turns.{LineLuck, Turn, Turned, Turns, client_named, client_turn_by, or_quiet, said_by_client, searching_luck, turn_by}
-use Rattle.node_run.proofs.CallMoves.{appended_moves}
-use Rattle.node_run.proofs.CallTells.{IfErr, IsFetchTrouble, IsStoreTrouble, asked_and_looked_own, each_own, got_own, settle_own}
+use Rattle.call_laws.proofs.CallMoves.{appended_moves}
+use Rattle.call_laws.proofs.CallTells.{IfErr, IsFetchTrouble, IsStoreTrouble, asked_and_looked_own, got_own, settle_own}
+use Rattle.node_run.proofs.Fetches.{each_own}
 use Rattle.node_run.proofs.Moving.{turn_later, turns_later}
 use Rattle.quick_node.specs.Fronts.{Known, after_outcome, config_then, known_of}
 use Rattle.quick_node.specs.Reading.{last_moment}
 use Rattle.quick_node.specs.Refusals.{IfRefused, Refuses, RefusesAsked, RefusesDelete, RefusesFrom}
 use Rattle.quick_node.specs.Serve.{IsPrefixOf, Before, After, End, HasEnd, IsFresh, Answers, Lives}
-use Rattle.node_run.proofs.AskedTexts.{asked_utf8}
+use Rattle.thread_run.proofs.AskedTexts.{asked_utf8}
 use Rattle.quick_node.proofs.Beginning.{RiseFrom, end_rises, lives_say, starts}
 use Rattle.quick_node.proofs.Clocks.{turn_ticks}
 use Rattle.quick_node.proofs.Files.{IsTimed, appended_few}

@@ -28,7 +28,7 @@ use Rattle.search_api.specs.declared.reply.Reply.{Reply}
 use Rattle.search_api.specs.declared.reply.Said.{Said}
 use Rattle.search_api.specs.declared.reply.Said.TheVariants.{Found, Deleted, Refused}
 use Rattle.node_run.specs.Node.{Line, Outcome, client_said}
-use Rattle.node_run.specs.Telling.{IsOfText}
+use Rattle.request_laws.specs.OfText.{IsOfText}
 use Rattle.quick_node.specs.Deletes.{Deletes, HasCause, KeepsFront, Replies}
 use Rattle.quick_node.specs.Fronts.{Known, known_of}
 use Rattle.quick_node.proofs.TaskCauses.{tasks_too_many}

@@ -47,12 +47,13 @@ use Rattle.upkeep_run.specs.declared.work.Aim.TheVariants.{Deleting, Merging}
 use Rattle.node_run.specs.Node.{Node, Line, At, Assign, StepIndexer, RestartIndexer, RestartClient, StepMerger, RestartMerger, StepDeleter, RestartDeleter, StepCollector, RestartCollector, RestartNode, Open, StepClient, Outcome, client_said}
 use Rattle.node_run.specs.Turns as node_turns
 use Rattle.node_run.specs.Turns.{full_turn, turn_with, turn_by, or_quiet, quiet, Turn, Turns, Turned, client_named, with_client, keep_client, said_by_indexer, indexer_stepped, indexer_turn_by, said_by_client, client_turn_by, collecting_luck, said_by_collector, collector_turn_by, assign_at, open_by, restart_by, indexer_at, indexing_luck, searching_luck, working_luck, said_by_worker, worker_stepped, worker_turn_by, with_deleter, with_merger}
-use Rattle.node_run.proofs.CallMoves.{Grows, same_grows, appended_moves, asked_and_looked_moves, each_moves, loaded_moves}
+use Rattle.call_laws.proofs.CallMoves.{Grows, same_grows, appended_moves, asked_and_looked_moves, loaded_moves}
+use Rattle.node_run.proofs.Fetches.{each_moves}
 use Rattle.node_run.proofs.CollectorMoves.{collector_moves}
 use Rattle.node_run.proofs.WorkerMoves.{worker_moves}
 use Rattle.node_run.proofs.Moving.{indexer_moves, client_moves, turns_later}
-use Rattle.node_run.proofs.Refusals.{OfText, asked_of_text}
-use Rattle.node_run.specs.Telling.{IsOfText}
+use Rattle.request_laws.specs.OfText.{IsOfText, OfText}
+use Rattle.node_run.proofs.Refusals.{asked_of_text}
 use Rattle.quick_node.specs.Deletes.{Deletes, DeletesFrom, HasCause, KeepsFront, Replies}
 use Rattle.quick_node.specs.Fronts.{Known, known_of, after_outcome, config_then}
 use Rattle.quick_node.specs.Serve.{IsPrefixOf, IfFound, AnswersOne, AnswersFrom}

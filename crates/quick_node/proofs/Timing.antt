@@ -14,7 +14,7 @@ use Rattle.upkeep_run.specs.declared.work.Aim.TheVariants.{Deleting, Merging}
 use Rattle.node_run.specs.Node.{Node, Line, At, Assign, StepIndexer, RestartIndexer, RestartClient, StepMerger, RestartMerger, StepDeleter, RestartDeleter, StepCollector, RestartCollector, RestartNode, Open, StepClient, Outcome}
 use Rattle.node_run.specs.Turns.{LineLuck, client_named, client_turn_by, collecting_luck, collector_turn_by, full_turn, indexer_at, indexer_turn_by, indexing_luck, or_quiet, searching_luck, turn_by, with_deleter, with_merger, worker_turn_by, working_luck, Turn}
 use Rattle.index_world.proofs.Worlds.{same-landed}
-use Rattle.node_run.proofs.CollectorMoves.{answered_same, unmade_same}
+use Rattle.call_laws.proofs.CollectingMoves.{answered_same, unmade_same}
 use Rattle.node_run.proofs.Moving.{assign_same, open_same, restart_same}
 use Rattle.quick_node.proofs.Files.{Fits, IsTimed, One, begun_still, client_few, create_fits, create_still, get_one, got_still, indexer_few, last_by, loaded_few, settled_one, timed_asked, timed_same, timed_taken}
 use Rattle.quick_node.proofs.Working.{worker_works}

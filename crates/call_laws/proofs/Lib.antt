@@ -1,0 +1,3 @@
+pub mod CallMoves
+pub mod CallTells
+pub mod CollectingMoves

@@ -1,0 +1,2 @@
+//! Laws of the calls of a world: how they move a core, and what they tell over a sound index.
+#![tactic(auto)]

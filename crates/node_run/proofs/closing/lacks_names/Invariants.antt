@@ -1,7 +1,0 @@
-use Rattle.std.proofs.Common.{◌≡◌, false, take}
-use Rattle.std.specs.List.{AllByRecursion}
-use Rattle.node_run.specs.Staffing.{is_short}
-use Rattle.node_run.proofs.closing.lacks_names.Given as goal
-
-abbrev pub invariant-loop-post : goal.invariant-loop-post
-invariant-loop-post g l = AllByRecursion (λ post. is_short post ≡ false) (take l.post-index l.posts)

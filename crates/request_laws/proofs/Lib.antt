@@ -1,0 +1,4 @@
+pub mod Refusals
+pub mod JsonTokens
+pub mod JsonTexts
+pub mod AskedTexts

@@ -1,0 +1,18 @@
+-- Whatever lands and fails, a call of the collector moves the core as a call of the world does.
+use Rattle.std.proofs.Common.{refl}
+use Rattle.std.specs.Prelude.{Option}
+use Rattle.index_world.specs.Collecting.{removal_offer, stale_offer}
+use Rattle.index_world.specs.Core.{Core}
+use Rattle.split_collector.specs.Outcomes.{Outcome}
+use Rattle.split_collector.specs.Steps.{CallLuck, turned}
+use Rattle.split_collector.specs.Turns.{Turn, ended, to_doom, to_list, to_mark, to_remove, to_sweep}
+use Rattle.call_laws.proofs.CallMoves.{Moves, stays, moves_on, troubled_moves, file_got_moves}
+use Rattle.call_laws.proofs.CollectingMoves.{appended_if_moves, doom_moves, sweep_moves}
+
+pub called_moves : (turn : Turn (Option Outcome)) (luck : CallLuck) (core : Core) → Moves core (turned turn luck core).core
+called_moves to_mark luck core = appended_if_moves luck.fate 0 stale_offer core
+called_moves to_doom luck core = moves_on (doom_moves luck.fate core) (troubled_moves _ _)
+called_moves to_remove luck core = appended_if_moves luck.fate 0 removal_offer core
+called_moves (to_list behind) luck core = moves_on (file_got_moves luck.fate.first core) (troubled_moves _ _)
+called_moves (to_sweep number next) luck core = moves_on (sweep_moves luck.fate.unasked number luck.fate core) (troubled_moves _ _)
+called_moves (ended outcome) luck core = stays refl
