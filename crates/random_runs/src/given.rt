@@ -1,10 +1,10 @@
 //! What a run is given: logs, requests and options.
 
 use byte_fields::{Client, Text};
-use node_run::RunOptions;
 use plain_lives::{Asked, Dice, Plain, Request, Schedule, Wrong, name_of};
 use source_log::FaultyLog;
 use std::alloc::Global;
+use thread_run::RunOptions;
 
 /// A request and the number of the client that asks it.
 #[derive(Clone, Copy)]

@@ -8,7 +8,6 @@ use crate::told::Course;
 use clock_time::{Clock, ScriptClock};
 use index_world::World;
 use meta_journal::Entries;
-use node_run::{ActorEnd, RunEnd, RunOptions, Settled, run};
 use object_store::ObjectStore;
 use plain_lives::{
     Counts, FailingStore, Schedule, Shown, Wrong, answered, loaded, logs_of, new_index, opened,
@@ -20,6 +19,7 @@ use std::alloc::Global;
 use std::mem;
 use std::sync::Wait;
 use std::thread::Threads;
+use thread_run::{ActorEnd, RunEnd, RunOptions, Settled, run};
 
 /// What a life is like: one of so many calls of the store and of the logs fails, the clock goes on, and the index is settled.
 #[derive(Clone, Copy)]

@@ -1,8 +1,8 @@
 //! How the actors of a run ended.
 
-use node_run::{ActorEnd, end_line};
 use plain_lives::{Plain, Wrong};
 use std::alloc::Global;
+use thread_run::{ActorEnd, end_line};
 
 /// The marks of all partitions at the end of a run, and what it was like.
 #[derive(Clone, Copy)]

@@ -2,7 +2,6 @@
 
 use crate::making::{Memory, ask, let_go, lines_of, new_world, one_of, push_all, run_one};
 use byte_fields::Client;
-use node_run::RunEnd;
 use root_search::{LeafHold, NoHold};
 use run_plan::Request;
 use source_checkpoint::Partition;
@@ -13,6 +12,7 @@ use std::sync::Wait;
 use std::sync::atomic::{AtomicBool, Ordering};
 use std::test::*;
 use std::thread::{self, Threads};
+use thread_run::RunEnd;
 
 const CONFIG: &str =
     "version = \"0.9\"\nindex_id = \"logs\"\n[doc_mapping]\nmode = \"strict\"\n[[doc_mapping.field_mappings]]\nname = \"body\"\ntype = \"text\"\nrecord = \"position\"\n[[doc_mapping.field_mappings]]\nname = \"level\"\ntype = \"text\"\ntokenizer = \"raw\"\nfast = true\n[indexing_settings.merge_policy]\ntype = \"stable_log\"\nmin_level_num_docs = 100\nmerge_factor = 2\nmax_merge_factor = 4\n[search_settings]\ndefault_search_fields = [\"body\"]\n[upkeep]\nstaged_grace_secs = 200\ndeletion_grace_secs = 100\n";

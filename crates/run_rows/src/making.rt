@@ -5,7 +5,6 @@ ghost use Rattle.std.specs.Prelude.{◌≡◌, ◌≤◌, IfOk, length};
 use byte_fields::{Client, Text};
 use clock_time::ScriptClock;
 use index_world::{Unopened, World};
-use node_run::{ActorEnd, RunEnd, RunOptions, end_line, run};
 use object_store::{MemoryStore, ObjectStore};
 use root_search::LeafHold;
 use run_plan::Request;
@@ -17,6 +16,7 @@ use std::mem;
 use std::sync::Wait;
 use std::test::*;
 use std::thread::Threads;
+use thread_run::{ActorEnd, RunEnd, RunOptions, end_line, run};
 
 /// A world over a store in memory.
 pub type Memory = World<MemoryStore, ScriptClock>;

@@ -1,7 +1,6 @@
 //! Runs whose replies depend on which thread comes first: of what kind each reply is, and how each actor ended.
 
 use crate::making::{ask, ends_of, let_go, new_world, one_of, push_all, run_one, run_two, two_of};
-use node_run::{RunEnd, Settled};
 use root_search::NoHold;
 use run_plan::Request;
 use search_api::{Reply, Said};
@@ -9,6 +8,7 @@ use source_log::MemoryLog;
 use std::alloc::Global;
 use std::mem;
 use std::test::*;
+use thread_run::{RunEnd, Settled};
 
 const CONFIG: &str =
     "version = \"0.9\"\nindex_id = \"logs\"\n[doc_mapping]\nmode = \"strict\"\n[[doc_mapping.field_mappings]]\nname = \"n\"\ntype = \"u64\"\n";

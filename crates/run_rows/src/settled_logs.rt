@@ -2,7 +2,6 @@
 
 use crate::making::{Memory, ask, let_go, new_world, push_all, run_two, two_of};
 use meta_store::Meta;
-use node_run::{RunEnd, Settled};
 use root_search::NoHold;
 use run_plan::Request;
 use source_checkpoint::Partition;
@@ -13,6 +12,7 @@ use std::mem;
 use std::sync::Wait;
 use std::test::*;
 use std::thread::Threads;
+use thread_run::{RunEnd, Settled};
 
 // Splits of two documents, of which two or three are merged.
 const CONFIG: &str =
