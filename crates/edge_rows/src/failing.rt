@@ -2,6 +2,9 @@
 
 ghost use Rattle.std.specs.Prelude.{◌≡◌, ◌≤◌, IfOk, Ok};
 
+use std::alloc::{AllocError, Global};
+use std::cell::{RefCell, RefMut};
+use std::rc::Rc;
 use std::{io, mem};
 
 /// The system's number of an error of input or output.
@@ -42,8 +45,8 @@ fn fault() -> io::Error {
 }
 
 impl Plan {
-    /// How the call with a number goes: an error where nothing is done.
-    pub fn turn(&self, call: u64) -> io::Result<Turn> {
+    // How the call with a number goes: an error where nothing is done.
+    fn turn(&self, call: u64) -> io::Result<Turn> {
         match self.manner {
             Manner::Stops if call >= self.call => Err(fault()),
             Manner::Undone if call == self.call => Err(fault()),
@@ -52,15 +55,155 @@ impl Plan {
             _ => Ok(Turn::Good),
         }
     }
-}
 
-impl Plan {
-    /// Whether each call fails behind so many.
-    pub fn is_dead(&self, calls: u64) -> bool {
+    // Whether each call fails behind so many.
+    fn is_dead(&self, calls: u64) -> bool {
         match self.manner {
             Manner::Stops => calls >= self.call,
             Manner::Undone | Manner::Done | Manner::Short => false,
         }
+    }
+}
+
+/// How the calls of a disk go, and what was seen of them.
+#[derive(Drop)]
+pub struct Course {
+    alloc: Global,
+    plan: Option<Plan>,
+    calls: u64,
+    has_struck: bool,
+    changes: u64,
+    /// A sync of a folder failed.
+    has_lost: bool,
+    keeps_files: bool,
+    /// A name that no listing gives, as one that was made while the listing went on.
+    overlooked: Option<String>,
+}
+
+/// A course that a disk has and the table looks at.
+#[derive(Drop)]
+pub struct SharedCourse {
+    course: Rc<RefCell<Course>>,
+}
+
+impl SharedCourse {
+    /// No call was made, and none is to fail.
+    pub fn vacant(alloc: Global) -> Result<SharedCourse, AllocError> {
+        let course = RefCell::new(Course {
+            alloc,
+            plan: None,
+            calls: 0,
+            has_struck: false,
+            changes: 0,
+            has_lost: false,
+            keeps_files: false,
+            overlooked: None,
+        });
+        Ok(SharedCourse {
+            course: Rc::new(alloc, course)?,
+        })
+    }
+
+    /// The same course once more.
+    pub fn share(&self) -> Result<SharedCourse, AllocError> {
+        Ok(SharedCourse {
+            course: self.course.clone()?,
+        })
+    }
+
+    /// It is taken for as long as what is given lasts.
+    pub fn taken(&self) -> io::Result<RefMut<'_, Course>> {
+        Ok(self.course.try_borrow_mut()?)
+    }
+}
+
+impl Course {
+    /// From here on calls fail by this plan. The count of calls begins anew.
+    pub fn follow(&mut self, plan: Option<Plan>) {
+        self.plan = plan;
+        self.calls = 0;
+        self.has_struck = false;
+        self.has_lost = false;
+    }
+
+    /// From here on each removal of a file is refused, or none.
+    pub fn keep_files(&mut self, keeps: bool) {
+        self.keeps_files = keeps;
+    }
+
+    pub fn keeps_files(&self) -> bool {
+        self.keeps_files
+    }
+
+    /// From here on no listing gives a name.
+    pub fn overlook(&mut self, name: &str) -> Result<(), AllocError> {
+        self.overlooked = Some(String::from_str(self.alloc, name)?);
+        Ok(())
+    }
+
+    /// Whether listings give a name.
+    pub fn shows(&self, name: &[u8]) -> bool {
+        match &self.overlooked {
+            Some(overlooked) => overlooked.as_bytes() != name,
+            None => true,
+        }
+    }
+
+    /// How many calls were made since the plan began.
+    pub fn calls(&self) -> u64 {
+        self.calls
+    }
+
+    /// Whether a call went as the plan says.
+    pub fn has_struck(&self) -> bool {
+        self.has_struck
+    }
+
+    /// Whether every call fails from here on.
+    pub fn is_dead(&self) -> bool {
+        match self.plan {
+            Some(plan) => plan.is_dead(self.calls),
+            None => false,
+        }
+    }
+
+    /// Whether calls succeed from here on, and no sync of a folder failed.
+    pub fn is_sound(&self) -> bool {
+        !self.is_dead() && !self.keeps_files && !self.has_lost
+    }
+
+    /// Counts a call, and says how it goes: an error where nothing is done.
+    pub fn turn(&mut self) -> io::Result<Turn> {
+        self.calls = self.calls.saturating_add(1);
+        let Some(plan) = self.plan else {
+            return Ok(Turn::Good);
+        };
+        let turn = plan.turn(self.calls);
+        match turn {
+            Ok(Turn::Good) | Ok(Turn::Short) => {}
+            _ => self.has_struck = true,
+        }
+        turn
+    }
+
+    /// A read or a write was cut short.
+    pub fn strike(&mut self) {
+        self.has_struck = true;
+    }
+
+    /// A name was given or taken, or a file was written to.
+    pub fn change(&mut self) {
+        self.changes = self.changes.saturating_add(1);
+    }
+
+    /// How often something changed.
+    pub fn changes(&self) -> u64 {
+        self.changes
+    }
+
+    /// A sync of a folder failed. Behind it a store makes no object more.
+    pub fn lose_sync(&mut self) {
+        self.has_lost = true;
     }
 }
 

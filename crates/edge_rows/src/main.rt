@@ -7,10 +7,13 @@ ghost use Rattle.std.specs.Prelude.{◌≤◌};
 
 mod book;
 mod failing;
+mod ground;
 mod lives;
-mod memory_disk;
 mod memory_files;
+mod memory_tree;
+mod shared_disk;
 mod table;
+mod trial;
 mod wrong;
 
 use crate::table::play_table;
