@@ -1,10 +1,7 @@
 //! A life of an index over a disk in memory: it is made, indexes a log, is opened anew, indexes the rest, and is searched.
 
-use crate::book::Book;
-use crate::ground::{Ground, STORE};
-use crate::memory_files::MemoryFiles;
-use crate::wrong::Wrong;
 use clock_time::ScriptClock;
+use edge_ground::{Book, Ground, MemoryFiles, STORE, Wrong};
 use index_world::{Unopened, World, WorldError};
 use node_run::{Accepts, DriveNode, Line, LineError, Unstarted, read_line};
 use object_store::ObjectStore;

@@ -5,16 +5,9 @@
 
 ghost use Rattle.std.specs.Prelude.{◌≤◌};
 
-mod book;
-mod failing;
-mod ground;
 mod lives;
-mod memory_files;
-mod memory_tree;
-mod shared_disk;
 mod table;
 mod trial;
-mod wrong;
 
 use crate::table::play_table;
 use object_store::{CreateError, GetError, Key, ObjectStore};

@@ -2,11 +2,8 @@
 
 ghost use Rattle.std.specs.Prelude.{◌≤◌};
 
-use crate::failing::Manner;
-use crate::ground::Place;
-use crate::memory_tree::Left;
 use crate::trial::{Fate, OBJECTS, Trial};
-use crate::wrong::Wrong;
+use edge_ground::{Left, Manner, Place, Wrong};
 use std::alloc::{AllocError, Global};
 use std::io;
 use std::thread::Threads;

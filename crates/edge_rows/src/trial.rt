@@ -1,12 +1,8 @@
 //! One life of an index with what is wrong with its disk, and what is looked at behind it.
 
-use crate::book::{Book, left_beside};
-use crate::failing::{Manner, Plan};
-use crate::ground::{Ground, Place, STORE};
 use crate::lives::{Session, Told, is_vacant};
-use crate::memory_tree::{Left, MemoryTree};
-use crate::wrong::Wrong;
 use clock_time::ScriptClock;
+use edge_ground::{Book, Ground, Left, Manner, MemoryTree, Place, Plan, STORE, Wrong, left_beside};
 use index_world::{Unopened, World};
 use object_store::{Key, ObjectStore};
 use real_edge::FolderStore;
