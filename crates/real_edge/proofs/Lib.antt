@@ -11,3 +11,6 @@ pub mod Entries
 pub mod Calls
 pub mod Ordered
 pub mod Parts
+pub mod Lines
+pub mod Pieces
+pub mod Logs
