@@ -1,6 +1,7 @@
 //! A disk of objects in memory that its stores share, some calls of which fail.
 
 ghost use Rattle.std.specs.Prelude.{◌≡◌, ◌≤◌, Ok, None, ⊤, IfOk, IfSome, length};
+ghost use Rattle.std.specs.FinMap.{empty};
 
 use crate::failing::{SharedCourse, Turn};
 use crate::ground::Object;
@@ -221,9 +222,13 @@ impl Disk for SharedDisk {
 
     ghost may_leave = { λ _ _. ⊤ };
 
+    ghost crashed = { λ _. empty };
+
     ghost has_way = { λ _ _. ⊤ };
 
     ghost seen_may_stay = { λ _. tt };
+
+    ghost leaves_some = { λ _. tt };
 
     fn claim(&mut self) -> Result<(), Trouble> {
         let turn = self.begin()?;

@@ -260,7 +260,7 @@ synced name content r way before mid after o n on s more h = record {
 }
   where
     on_disk_by : (x : Result (Unit {0}) MakeError) → OnOk x (finmap.get n name ≡ Some content) → OnOk x (IsSafe after name content)
-    on_disk_by (Ok done) e c left = s.seen on c left name refl ∙ e
+    on_disk_by (Ok done) e = λ c left. s.seen on c left name refl ∙ e
     on_disk_by (Err x) e = tt
 
 -- or it was not

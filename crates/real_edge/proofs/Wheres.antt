@@ -1,6 +1,6 @@
 -- What is said of a disk that tells, a call behind another.
-use Rattle.std.proofs.Common.{◌≡◌, ◌≢◌, ◌⊎◌, ℕ, Bool, true, false, List, [], Option, Some, None, refl, sym, ap, subst, ◌∙◌, inl, inr}
-use Rattle.std.specs.Prelude.{IfSome, IfOk, Result, Ok, Err}
+use Rattle.std.proofs.Common.{◌≡◌, ◌≢◌, ◌⊎◌, ℕ, Bool, true, false, List, [], Option, Some, None, Result, Ok, Err, refl, sym, ap, subst, ◌∙◌, inl, inr}
+use Rattle.std.specs.Prelude.{IfSome, IfOk}
 use Rattle.std.specs.FinMap as finmap
 use Rattle.object_store.specs.Store.{State, WhereTold, LandsThen, AfterLanding}
 use Rattle.object_store.proofs.Landings.{HasLanded-refl}

@@ -4,6 +4,7 @@
 #![tactic(auto)]
 
 mod disk;
+mod dying_disk;
 mod faults;
 mod file_log;
 mod folder_names;
@@ -32,6 +33,7 @@ mod waiting;
 mod writer_lock;
 
 pub use disk::{Disk, DiskError, MakeError, Stamp, Standing};
+pub use dying_disk::DyingDisk;
 pub use faults::{Reason, Trouble};
 pub use file_log::FileLog;
 pub use folder_store::FolderStore;

@@ -1,0 +1,7 @@
+use Rattle.quick_node.proofs.BehindCrash.{kept_whole}
+use Rattle.quick_node.proofs.after_crash.a_crash_leaves_the_new_index.Goals as goal
+
+pub returns : goal.returns
+returns g c =
+    λ history before next moment after status is life told begins.
+    kept_whole after.kept _ life.exit before.log next is (c.what_a_crash_leaves.ensures after.kept told) life.index life.once life.left begins
