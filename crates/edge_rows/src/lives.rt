@@ -5,7 +5,7 @@ use edge_ground::{Book, Ground, MemoryFiles, STORE, Wrong};
 use index_world::{Unopened, World, WorldError};
 use node_run::{Accepts, DriveNode, Line, LineError, Unstarted, read_line};
 use object_store::ObjectStore;
-use real_edge::{FileLog, FolderStore};
+use real_edge::{FileLog, FolderStore, HostFiles};
 use source_log::SourceLog;
 use std::alloc::{AllocError, Global};
 use std::mem;
@@ -196,7 +196,7 @@ impl<'a> Session<'a> {
         }
     }
 
-    fn logs(&self) -> Result<Vec<FileLog<'a, MemoryFiles>>, AllocError> {
+    fn logs(&self) -> Result<Vec<FileLog<HostFiles<'a, MemoryFiles>>>, AllocError> {
         let log = FileLog::over(self.alloc, &self.ground.files, "logs")?;
         let mut logs = Vec::new(self.alloc);
         logs.push(log)?;
@@ -207,7 +207,7 @@ impl<'a> Session<'a> {
     fn start<S: ObjectStore + Drop>(
         &self,
         world: World<S, ScriptClock>,
-    ) -> Result<DriveNode<S, FileLog<'a, MemoryFiles>>, Wrong> {
+    ) -> Result<DriveNode<S, FileLog<HostFiles<'a, MemoryFiles>>>, Wrong> {
         match self.logs() {
             Ok(logs) => start(self.alloc, world, logs),
             Err(refused) => {
