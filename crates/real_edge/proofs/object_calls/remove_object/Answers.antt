@@ -18,4 +18,4 @@ returns g c =
     let d = c.remove-removed.new.self in
     let s = c.settle_removal-synced.new.disk in
     let ends = where_taken (told a) (told d) (told s) c.args.name.now c.remove-removed.result c.settle_removal-synced.result (left a) (left d) (left s) (way d) (way s) c.remove-removed.ensures.step c.settle_removal-synced.ensures.leaves c.settle_removal-synced.ensures.seen in
-    ?
+    rw (c.taken.ensures, c.is_err.ensures.value) ends

@@ -23,8 +23,8 @@ returns-in-Err-Failed g c =
     let b = c.make_beside.new.disk in
     where_failed (told a) (told b) c.args.name.now c.args.content.now _ c.args.is_lost.now (left a) (left b) c.requires.kept c.in-Err-Failed.ensures.failed
 
-pub returns-in-Ok : goal.returns-in-Ok
-returns-in-Ok g c =
+pub returns : goal.returns
+returns g c =
     let told = g.D.Disk.told in
     let left = g.D.Disk.may_leave in
     let way = g.D.Disk.has_way in
@@ -42,4 +42,4 @@ returns-in-Ok g c =
     let ends = where_ended (told a) (told e) (told s) name content r c.sync-synced.result (left a) (left e) (left s) (way e) (way s)
         (c.remove-removed.ensures.ways name (c.link-linked.ensures.ways name (c.make_beside.ensures.ways name c.requires.way)))
         linked c.sync-synced.ensures.leaves c.sync-synced.ensures.settled in
-    ?
+    rw (c.made.ensures, c.both.ensures, c.is_err.ensures.value) ends
