@@ -9,7 +9,7 @@ use Rattle.object_store.specs.declared.store.GetError.{GetError}
 use Rattle.object_store.specs.declared.store.GetError.TheVariants as gets
 use Rattle.object_store.specs.declared.store.ListError.{ListError}
 use Rattle.object_store.specs.declared.store.Piece.{Piece}
-use Rattle.object_store.specs.declared.store.CreateError.TheVariants as creates
+use Rattle.object_store.specs.declared.store.CreateError.TheVariants as made
 use Rattle.object_store.specs.Store.{State, AfterLanding, Creates, Gets, Deletes, Lists, Finds, IsPieceOf, is_wanted, listed, with_object, without_object}
 use Rattle.real_edge.specs.declared.faults.Trouble.{Trouble}
 use Rattle.real_edge.specs.declared.disk.DiskError.{DiskError}
@@ -80,7 +80,7 @@ lost_create name content r l m o n c s left p =
     let f = p.fails refl in
     subst (λ (x : Result (Unit {0}) MakeError). Creates name content (create_answer x) (state_of o) (state_of c)) (sym f.1) (by d.0 d.2 (s d.0 d.1) (is_object name) refl)
   where
-    by : (d : Files) → Showing name (Comes name content o) d c → ((q : List ℕ) → is_object q ≡ true → finmap.get d q ≡ finmap.get o q) → (b : Bool) → is_object name ≡ b → Creates name content (Err creates.Failed) (state_of o) (state_of c)
+    by : (d : Files) → Showing name (Comes name content o) d c → ((q : List ℕ) → is_object q ≡ true → finmap.get d q ≡ finmap.get o q) → (b : Bool) → is_object name ≡ b → Creates name content (Err made.Failed) (state_of o) (state_of c)
     by d h same false not = inr (inr (no_object name o d c h.others same not))
     by d h same true is = elim (h.here is) [
       | inl e ↦ inr (inr (was_here name o d c h.others same e))

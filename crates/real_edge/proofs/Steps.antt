@@ -392,7 +392,7 @@ module _ (name : List ℕ) (before mid after : Files → Type 0) (o n : Files) (
 
   half_others : (n ≡ finmap.remove o name) ⊎ (n ≡ o) → (q : List ℕ) → is_object q ≡ true → q ≢ name → finmap.get n q ≡ finmap.get o q
   half_others (inl e) = others_took name o n e
-  half_others (inr e) q is ne = ap (λ (f : Files). finmap.get f q) e
+  half_others (inr e) = λ q is ne. ap (λ (f : Files). finmap.get f q) e
 
   pub taken : (r rr : Result (Unit {0}) Trouble) → Removes name r before mid o n → IfOk rr (λ _. IsSeenAt name after n) → Takes name (taken_of r rr) (is_err rr) before after o n
   taken (Ok done) (Ok s) h seen = took_synced h.0 h.1 seen
@@ -440,7 +440,7 @@ pub where_ended : (a e s : Option Files) (name content : List ℕ) (r : Result (
 where_ended a e s name content r rr l m n way way' on h leaves settled =
     subst (λ (x : Option Files). Where a x (Places name content (made_of r rr) (is_err rr) l n)) (sym leaves.same)
     (where_beside a e {P = Linked name content r l m} {R = Places name content (made_of r rr) (is_err rr) l n} {Q = λ f. IfOk rr (λ _. IsSettled name way f n)}
-    (λ o x q p. ended name content r rr way l m n o x on q leaves.left p) (if_ok_some rr e {Q = λ f. IsSettled name way f n} settled) h)
+    (λ o x q p. ended name content r rr way l m n o x on q leaves.left p) (if_ok_some rr e (λ f. IsSettled name way f n) settled) h)
 
 -- a make of the file beside, behind what changed no object
 pub where_made : (a b c : Option Files) (name content : List ℕ) (l m n : Files → Type 0) → is_object name ≡ false → Where a b (KeepsObjects l m) → Where b c (Makes name content (Ok tt) m n) → Where a c (Made name content l n)
@@ -516,7 +516,7 @@ pub where_taken : (a d s : Option Files) (name : List ℕ) (r rr : Result (Unit 
 where_taken a d s name r rr l m n w x h leaves seen =
     subst (λ (y : Option Files). Where a y (Takes name (taken_of r rr) (is_err rr) l n)) (sym leaves.same)
     (where_beside a d {P = Removes name r l m} {R = Takes name (taken_of r rr) (is_err rr) l n} {Q = λ f. IfOk rr (λ _. IsSeenAt name n f)}
-    (λ o f q p. taken name l m n o f leaves.left r rr p q) (if_ok_some rr d {Q = λ f. IsSeenAt name n f} seen) h)
+    (λ o f q p. taken name l m n o f leaves.left r rr p q) (if_ok_some rr d (λ f. IsSeenAt name n f) seen) h)
 
 pub where_untaken : (a b : Option Files) (name : List ℕ) (t : Trouble) (is_lost : Bool) (l m : Files → Type 0) → is_lost ≡ false → Where a b (KeepsObjects l m) → Where a b (Takes name (Err t) is_lost l m)
 where_untaken a b name t is_lost l m kept k =

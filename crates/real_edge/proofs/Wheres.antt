@@ -83,10 +83,10 @@ works_not None Work f = tt
 works_not (Some s) Work f = (s, HasLanded-refl s, f s)
 
 -- what is said where an answer is `Ok`
-pub if_ok_some : {T E : Type 0} (r : Result T E) (a : Option Files) {Q : Files → Type 0} → IfOk r (λ _. IfSome a Q) → IfSome a (λ f. IfOk r (λ _. Q f))
-if_ok_some (Ok v) a h = h
-if_ok_some (Err e) None h = tt
-if_ok_some (Err e) (Some f) h = tt
+pub if_ok_some : {T E : Type 0} (r : Result T E) (a : Option Files) (Q : Files → Type 0) → IfOk r (λ _. IfSome a Q) → IfSome a (λ f. IfOk r (λ _. Q f))
+if_ok_some (Ok v) a Q h = h
+if_ok_some (Err e) None Q h = tt
+if_ok_some (Err e) (Some f) Q h = tt
 
 -- ---- calls that leave the files alone
 

@@ -20,8 +20,8 @@ returns-then-not-is_writer g c =
     let b = c.claim.new.self in
     where_untaken (told a) (told b) c.args.key.now c.of.result c.args.is_lost.now (left a) (left b) c.requires (where_left (told a) (told b) (left a) (left b) (way a) (way b) c.claim.ensures)
 
-pub returns-in-Ok : goal.returns-in-Ok
-returns-in-Ok g c =
+pub returns : goal.returns
+returns g c =
     let told = g.D.Disk.told in
     let left = g.D.Disk.may_leave in
     let way = g.D.Disk.has_way in
