@@ -80,7 +80,6 @@ impl<D: Disk> Disk for DyingDisk<D> {
         self.disk.make_way(alloc, name)
     }
 
-    #[tactic(auto, using(crate::proofs::Dying::not_made))]
     fn create_new(&mut self, alloc: Global, name: &[u8], content: &[u8]) -> Result<(), MakeError> {
         if !self.power.is_on() {
             return Err(MakeError::Failed(no_power()));
@@ -96,7 +95,6 @@ impl<D: Disk> Disk for DyingDisk<D> {
         self.disk.link(alloc, from, to)
     }
 
-    #[tactic(auto, using(crate::proofs::Dying::not_removed))]
     fn remove(&mut self, name: &[u8]) -> Result<(), Trouble> {
         if !self.power.is_on() {
             return Err(no_power());
