@@ -1,5 +1,6 @@
 pub mod Maps
 pub mod Meetings
+pub mod Doubts
 pub mod Steps
 pub mod Wheres
 pub mod Fronts

@@ -3,10 +3,10 @@ use Rattle.std.proofs.Common.{◌≡◌, ◌≢◌, ◌⊎◌, ℕ, true, List, 
 use Rattle.std.specs.Prelude.{IfSome}
 use Rattle.std.specs.FinMap as finmap
 use Rattle.object_store.specs.Store.{State, WhereTold, LandsThen, AfterLanding}
-use Rattle.object_store.proofs.Landings.{HasLanded-refl}
+use Rattle.real_edge.specs.declared.object_making.Doubt.{Doubt}
 use Rattle.real_edge.specs.Disk.{Files, Where, NoMore, Leaves}
 use Rattle.real_edge.specs.Names.{is_object}
-use Rattle.real_edge.specs.Objects.{state_of, state_in, KeepsObjects, ShowsNoMore}
+use Rattle.real_edge.specs.Objects.{state_of, doubted, state_in, KeepsObjects, ShowsNoMore}
 
 pub where_map : (a b : Option Files) {P Q : Files → Files → Type 0} → ((o n : Files) → P o n → Q o n) → Where a b P → Where a b Q
 where_map None None f h = tt
@@ -62,12 +62,12 @@ pub if_all : (a : Option Files) {R : Files → Type 0} → ((f : Files) → R f)
 if_all None f = tt
 if_all (Some x) f = f x
 
--- nothing lands, and the work is done
-pub works : (a b : Option Files) (Work : State → State → Type 0) {P : Files → Files → Type 0} → ((o n : Files) → P o n → Work (state_of o) (state_of n)) → Where a b P → AfterLanding (state_in a) (state_in b) Work
-works None None Work f h = tt
-works None (Some n) Work f h = tt
-works (Some o) None Work f h = h
-works (Some o) (Some n) Work f h = (state_of o, HasLanded-refl (state_of o), f o n h)
+-- what lands first, and the work that is done then
+pub works : (a b : Option Files) (d d' : Option Doubt) (Work : State → State → Type 0) {P : Files → Files → Type 0} → ((o n : Files) → P o n → LandsThen Work (doubted d (state_of o)) (doubted d' (state_of n))) → Where a b P → AfterLanding (state_in d a) (state_in d' b) Work
+works None None d d' Work f h = tt
+works None (Some n) d d' Work f h = tt
+works (Some o) None d d' Work f h = h
+works (Some o) (Some n) d d' Work f h = f o n h
 
 -- ---- calls that leave the files alone
 

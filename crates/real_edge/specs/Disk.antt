@@ -96,11 +96,11 @@ abbrev pub LinksTo : List ℕ → Option (List ℕ) → (Files → Type 0) → (
 LinksTo to None before after old new = ⊥
 LinksTo to (Some content) before after old new = (finmap.get old to ≡ None) × (new ≡ finmap.insert old to content) × MayTurn to (Some content) before after
 
--- a link that fails took effect, or not
+-- a link that fails took effect, or never will
 abbrev pub LinkFails : List ℕ → Option (List ℕ) → (Files → Type 0) → (Files → Type 0) → Files → Files → Type 0
 LinkFails to None before after old new = (new ≡ old) × NoMore before after
 LinkFails to (Some content) before after old new =
-    ((finmap.get old to ≡ None) × ((new ≡ finmap.insert old to content) ⊎ (new ≡ old)) × MayTurn to (Some content) before after)
+    ((finmap.get old to ≡ None) × (new ≡ finmap.insert old to content) × MayTurn to (Some content) before after)
     ⊎ ((new ≡ old) × NoMore before after)
 
 abbrev pub Links : List ℕ → List ℕ → Result (Unit {0}) MakeError → (Files → Type 0) → (Files → Type 0) → Files → Files → Type 0

@@ -5,7 +5,7 @@ ghost use Rattle.std.specs.Option.{option_copied};
 ghost use Rattle.byte_fields.specs.Causes.{HasCause};
 ghost use Rattle.object_store.specs.Store.{AfterLanding, Creates, Gets, Deletes, Lists, given_more, is_wanted};
 ghost use Rattle.real_edge.specs.Answers.{get_answer};
-ghost use Rattle.real_edge.specs.Objects.{state_in, create_answer, delete_answer, IsPlaced, IsTaken, KeepsSafe};
+ghost use Rattle.real_edge.specs.Objects.{state_in, create_answer, delete_answer, IsPlaced, IsTaken, KeepsSafe, IsSure};
 ghost use Rattle.real_edge.specs.declared.folder_walk.Walk.{Walk};
 ghost use Rattle.real_edge.specs.Disk.{Files};
 ghost use Rattle.real_edge.specs.Walk.{IsLed};
@@ -16,7 +16,7 @@ use crate::folder_path::FolderPath;
 use crate::folder_walk::Walk;
 use crate::host_disk::HostDisk;
 use crate::object_calls::{Page, keys_of, make, piece_of, take_out};
-use crate::object_making::Writer;
+use crate::object_making::{Doubt, Writer};
 use crate::writer_lock::WriterLock;
 use byte_fields::Failed;
 use object_store::{CreateError, GetError, Key, Keys, ListError, ObjectStore, Piece, given_behind};
@@ -27,10 +27,17 @@ use std::alloc::{AllocError, Global};
 /// A create writes a file beside, whose name no file had, puts it on the disk, links it under the key's name where nothing has that
 /// name, removes the first name, and puts the folder on the disk, so that a key never has half of an object, and an object that
 /// stands keeps its bytes. What is no plain file is no object.
+///
+/// Where a change failed and may not be on the disk, each call puts it there before it does anything else, and fails where it can't. So
+/// nothing is made, taken out or shown that rests on what the power may take.
 #[derive(Drop)]
 pub struct FolderStore<D: Disk> {
+    alloc: Global,
     disk: D,
     writer: Option<Writer>,
+    /// The change that may not be on the disk.
+    doubt: Option<Doubt>,
+    ghost sure: { (files : Files) → D.told disk ≡ Some files → IsSure doubt (D.may_leave disk) files },
     /// What gave the last page of a listing, where the page behind it may go on from there.
     walk: Option<Walk>,
     ghost walks: { (files : Files) → D.told disk ≡ Some files → (rests : Walk) → walk ≡ Some rests → IsLed rests files },
@@ -41,29 +48,38 @@ pub struct FolderStore<D: Disk> {
 
 impl<D: Disk> FolderStore<D> {
     fn over(alloc: Global, disk: D, writer: Option<Writer>) -> Result<FolderStore<D>, AllocError>
-        ensures { IfOk result (λ store. store.disk ≡ disk) }
+        requires { IfSome (D.told disk) (λ files. IsSure None (D.may_leave disk) files) }
+        ensures disk { IfOk result (λ store. store.disk ≡ disk) }
+        ensures sure { IfOk result (λ store. store.doubt ≡ None) }
     {
         let faults = Faults::with_room(alloc, FolderPath::room(disk.path()))?;
         Ok(FolderStore {
+            alloc,
             disk,
             writer,
+            doubt: None,
             walk: None,
             faults,
             given: 0,
         })
     }
 
-    /// The objects of this disk, to be read: each create and each delete is a failure. Nothing is asked of the disk yet.
+    /// The objects of this disk, to be read: each create and each delete is a failure. Nothing is asked of the disk yet. Where the disk
+    /// tells, what is seen of its objects is on it, as when the machine has just begun.
     pub fn reader_of(alloc: Global, disk: D) -> Result<FolderStore<D>, AllocError>
-        ensures { IfOk result (λ store. store.disk ≡ disk) }
+        requires { IfSome (D.told disk) (λ files. IsSure None (D.may_leave disk) files) }
+        ensures disk { IfOk result (λ store. store.disk ≡ disk) }
+        ensures sure { IfOk result (λ store. store.doubt ≡ None) }
     {
         FolderStore::over(alloc, disk, None)
     }
 
-    /// The objects of this disk, to be read and written. The first call removes what killed writers left beside the objects.
-    /// `writer` names the files beside. Nothing is asked of the disk yet.
+    /// The same, to be read and written. The first call removes what killed writers left beside the objects, and puts all names on the
+    /// disk. `writer` names the files beside.
     pub fn writer_of(alloc: Global, disk: D, writer: u64) -> Result<FolderStore<D>, AllocError>
-        ensures { IfOk result (λ store. store.disk ≡ disk) }
+        requires { IfSome (D.told disk) (λ files. IsSure None (D.may_leave disk) files) }
+        ensures disk { IfOk result (λ store. store.disk ≡ disk) }
+        ensures sure { IfOk result (λ store. store.doubt ≡ None) }
     {
         FolderStore::over(alloc, disk, Some(Writer::of(writer)))
     }
@@ -76,6 +92,7 @@ impl<D: Disk> FolderStore<D> {
     // No page goes on from names among which this key may come or go.
     fn forget(&mut self, key: &Key)
         ensures disk { self.new.disk ≡ self.old.disk }
+        ensures doubt { self.new.doubt ≡ self.old.doubt }
         ensures faults { self.new.faults.count ≡ self.old.faults.count }
         ensures given { self.new.given ≡ self.old.given }
         ensures walk { IfSome self.new.walk (λ walk. is_wanted walk.prefix walk.after key.now ≡ false) }
@@ -167,7 +184,9 @@ impl<'a, F: WriterLock> FolderStore<HostDisk<'a, F>> {
         folder: &str,
     ) -> Result<FolderStore<HostDisk<'a, F>>, AllocError> {
         Ok(FolderStore {
+            alloc,
             disk: HostDisk::reading(alloc, files, folder)?,
+            doubt: None,
             writer: None,
             walk: None,
             faults: Faults::with_room(alloc, FolderPath::room(folder))?,
@@ -185,7 +204,9 @@ impl<'a, F: WriterLock> FolderStore<HostDisk<'a, F>> {
         writer: u64,
     ) -> Result<FolderStore<HostDisk<'a, F>>, AllocError> {
         Ok(FolderStore {
+            alloc,
             disk: HostDisk::writing(alloc, files, folder)?,
+            doubt: None,
             writer: Some(Writer::of(writer)),
             walk: None,
             faults: Faults::with_room(alloc, FolderPath::room(folder))?,
@@ -195,44 +216,65 @@ impl<'a, F: WriterLock> FolderStore<HostDisk<'a, F>> {
 }
 
 impl<D: Disk> ObjectStore for FolderStore<D> {
-    ghost told = { λ s. state_in (D.told s.disk) };
+    ghost told = { λ s. state_in s.doubt (D.told s.disk) };
 
     ghost fault_count = { λ s. s.faults.count };
 
     ghost given = { λ s. s.given };
 
     fn create(&mut self, alloc: Global, key: &Key, content: &[u8]) -> Result<(), CreateError>
-        ensures step { AfterLanding (state_in (D.told self.old.disk)) (state_in (D.told self.new.disk)) (Creates key.now content.now result) }
+        ensures step { AfterLanding (state_in self.old.doubt (D.told self.old.disk)) (state_in self.new.doubt (D.told self.new.disk)) (Creates key.now content.now result) }
         ensures cause { HasCause self.old.faults.count self.new.faults.count (IsErrOf result CreateError.Failed) }
         // Behind an `Ok` no crash takes the object, and no call makes one that was on the disk less safe.
         ensures disk { IfSome (D.told self.old.disk) (λ _. IsPlaced key.now content.now result (D.may_leave self.old.disk) (D.may_leave self.new.disk)) }
     {
         self.forget(key);
-        let made = make(&mut self.disk, alloc, &mut self.writer, key, content);
+        let made = make(
+            &mut self.disk,
+            alloc,
+            &mut self.writer,
+            &mut self.doubt,
+            key,
+            content,
+        );
         answer_create(&mut self.faults, self.disk.path(), made)
     }
 
     fn get(&mut self, alloc: Global, key: &Key, from: u64, len: u64) -> Result<Piece, GetError>
-        ensures step { AfterLanding (state_in (D.told self.old.disk)) (state_in (D.told self.new.disk)) (Gets key.now from len result) }
+        ensures step { AfterLanding (state_in self.old.doubt (D.told self.old.disk)) (state_in self.new.doubt (D.told self.new.disk)) (Gets key.now from len result) }
         ensures bound { IfOk result (λ piece. length piece.bytes ≤ len) }
         ensures given { self.new.given ≡ given_more result self.old.given }
         ensures cause { HasCause self.old.faults.count self.new.faults.count (IsErrOf result GetError.Failed) }
         ensures disk { IfSome (D.told self.old.disk) (λ _. KeepsSafe (D.may_leave self.old.disk) (D.may_leave self.new.disk)) }
     {
-        let found = piece_of(&mut self.disk, alloc, &mut self.writer, key, from, len);
+        let found = piece_of(
+            &mut self.disk,
+            alloc,
+            &mut self.writer,
+            &mut self.doubt,
+            key,
+            from,
+            len,
+        );
         let answer = answer_get(&mut self.faults, self.disk.path(), found);
         self.given = given_behind(self.given, &answer);
         answer
     }
 
     fn delete(&mut self, key: &Key) -> Result<(), Failed>
-        ensures step { AfterLanding (state_in (D.told self.old.disk)) (state_in (D.told self.new.disk)) (Deletes key.now result) }
+        ensures step { AfterLanding (state_in self.old.doubt (D.told self.old.disk)) (state_in self.new.doubt (D.told self.new.disk)) (Deletes key.now result) }
         ensures cause { HasCause self.old.faults.count self.new.faults.count (IsErr result) }
         // Behind an `Ok` no crash brings the object back, and no call makes another that was on the disk less safe.
         ensures disk { IfSome (D.told self.old.disk) (λ _. IsTaken key.now result (D.may_leave self.old.disk) (D.may_leave self.new.disk)) }
     {
         self.forget(key);
-        let taken = take_out(&mut self.disk, self.writer.is_some(), key);
+        let taken = take_out(
+            &mut self.disk,
+            self.alloc,
+            self.writer.is_some(),
+            &mut self.doubt,
+            key,
+        );
         answer_delete(&mut self.faults, self.disk.path(), taken)
     }
 
@@ -244,7 +286,7 @@ impl<D: Disk> ObjectStore for FolderStore<D> {
         max: u32,
     ) -> Result<Keys, ListError>
         requires { 1 ≤ max }
-        ensures step { AfterLanding (state_in (D.told self.old.disk)) (state_in (D.told self.new.disk)) (Lists prefix.now (option_copied after.entry) max result) }
+        ensures step { AfterLanding (state_in self.old.doubt (D.told self.old.disk)) (state_in self.new.doubt (D.told self.new.disk)) (Lists prefix.now (option_copied after.entry) max result) }
         ensures bound { IfOk result (λ keys. length keys ≤ max) }
         ensures cause { HasCause self.old.faults.count self.new.faults.count (IsErrOf result ListError.Failed) }
         ensures disk { IfSome (D.told self.old.disk) (λ _. KeepsSafe (D.may_leave self.old.disk) (D.may_leave self.new.disk)) }
@@ -254,6 +296,7 @@ impl<D: Disk> ObjectStore for FolderStore<D> {
             &mut self.disk,
             alloc,
             &mut self.writer,
+            &mut self.doubt,
             walk,
             prefix,
             after,

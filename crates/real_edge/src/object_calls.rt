@@ -1,18 +1,18 @@
 //! The calls of a store of objects, over its disk.
 
-ghost use Rattle.std.specs.Prelude.{◌≡◌, ◌≤◌, true, IfOk, IfSome, length, take};
+ghost use Rattle.std.specs.Prelude.{◌≡◌, ◌≤◌, None, true, IfOk, IfSome, length, take};
 ghost use Rattle.std.specs.Option.{option_copied};
 ghost use Rattle.object_store.specs.Store.{listed};
 ghost use Rattle.real_edge.specs.Disk.{Where, Reads, Leaves};
 ghost use Rattle.real_edge.specs.Names.{is_object};
-ghost use Rattle.real_edge.specs.Objects.{KeepsObjects, Places, Takes, objects_of};
+ghost use Rattle.real_edge.specs.Objects.{KeepsObjects, Readies, Creating, Takes, objects_of};
 ghost use Rattle.real_edge.specs.Walk.{IsCovering};
 
 use crate::disk::{Disk, DiskError, MakeError};
 use crate::faults::Trouble;
 use crate::folder_walk::Walk;
 use crate::leftovers::clear;
-use crate::object_making::{Writer, place};
+use crate::object_making::{Doubt, Writer, place};
 use object_store::{Key, Keys, Piece};
 use std::alloc::Global;
 
@@ -30,27 +30,48 @@ fn clear_once<D: Disk>(disk: &mut D, alloc: Global, writer: &mut Writer) -> Resu
     if writer.has_cleared {
         return Ok(());
     }
-    match clear(disk, alloc) {
+    clear(disk, alloc)?;
+    writer.has_cleared = true;
+    Ok(())
+}
+
+// What is in doubt is put on the disk.
+fn settle<D: Disk>(disk: &mut D, alloc: Global, doubt: &mut Option<Doubt>) -> Result<(), DiskError>
+    ensures ready { Where (D.told disk.old) (D.told disk.new) (Readies doubt.old doubt.new (D.may_leave disk.old) (D.may_leave disk.new)) }
+    ensures sure { IfOk result (λ _. doubt.new ≡ None) }
+{
+    let Some(change) = *doubt else {
+        return Ok(());
+    };
+    let key = change.key();
+    disk.make_way(alloc, key.as_bytes())?;
+    match disk.sync(key.as_bytes()) {
         Ok(()) => {
-            writer.has_cleared = true;
+            *doubt = None;
             Ok(())
         }
-        Err(refused) => Err(DiskError::Memory(refused)),
+        Err(trouble) => Err(DiskError::Failed(trouble)),
     }
 }
 
-// A writer's disk is its own, and has no files beside of others.
-fn begin<D: Disk>(disk: &mut D, alloc: Global, writer: &mut Option<Writer>) -> Result<(), DiskError>
-    ensures { Where (D.told disk.old) (D.told disk.new) (KeepsObjects (D.may_leave disk.old) (D.may_leave disk.new)) }
+// A writer's disk is its own, and has no files beside of others. Nothing is made or shown while a change is in doubt.
+fn begin<D: Disk>(
+    disk: &mut D,
+    alloc: Global,
+    writer: &mut Option<Writer>,
+    doubt: &mut Option<Doubt>,
+) -> Result<(), DiskError>
+    ensures ready { Where (D.told disk.old) (D.told disk.new) (Readies doubt.old doubt.new (D.may_leave disk.old) (D.may_leave disk.new)) }
+    ensures sure { IfOk result (λ _. doubt.new ≡ None) }
 {
     match disk.claim() {
         Ok(()) => {}
         Err(trouble) => return Err(DiskError::Failed(trouble)),
     }
-    match writer {
-        Some(writer) => clear_once(disk, alloc, writer),
-        None => Ok(()),
+    if let Some(writer) = writer {
+        clear_once(disk, alloc, writer)?;
     }
+    settle(disk, alloc, doubt)
 }
 
 /// Makes an object where its key is absent.
@@ -58,18 +79,20 @@ pub fn make<D: Disk>(
     disk: &mut D,
     alloc: Global,
     writer: &mut Option<Writer>,
+    doubt: &mut Option<Doubt>,
     key: &Key,
     content: &[u8],
 ) -> Result<(), MakeError>
-    ensures { Where (D.told disk.old) (D.told disk.new) (Places key.now content.now result (D.may_leave disk.old) (D.may_leave disk.new)) }
+    ensures { Where (D.told disk.old) (D.told disk.new) (Creating key.now content.now result doubt.old doubt.new (D.may_leave disk.old) (D.may_leave disk.new)) }
 {
-    match begin(disk, alloc, writer) {
+    match begin(disk, alloc, writer, doubt) {
         Ok(()) => {}
         Err(DiskError::Memory(refused)) => return Err(MakeError::Memory(refused)),
         Err(DiskError::Failed(trouble)) => return Err(MakeError::Failed(trouble)),
     }
+    let _name = key.as_bytes();
     match writer {
-        Some(writer) => place(disk, alloc, writer, key.as_bytes(), content),
+        Some(writer) => place(disk, alloc, writer, doubt, key, content),
         None => Err(MakeError::Failed(Trouble::of("making", "the store is only read"))),
     }
 }
@@ -79,23 +102,50 @@ pub fn piece_of<D: Disk>(
     disk: &mut D,
     alloc: Global,
     writer: &mut Option<Writer>,
+    doubt: &mut Option<Doubt>,
     key: &Key,
     from: u64,
     len: u64,
 ) -> Result<Option<Piece>, DiskError>
-    ensures keeps { Where (D.told disk.old) (D.told disk.new) (KeepsObjects (D.may_leave disk.old) (D.may_leave disk.new)) }
+    ensures ready { Where (D.told disk.old) (D.told disk.new) (Readies doubt.old doubt.new (D.may_leave disk.old) (D.may_leave disk.new)) }
+    ensures sure { IfOk result (λ _. doubt.new ≡ None) }
     ensures finds { IfOk result (λ found. IfSome (D.told disk.new) (λ files. Reads key.now from len found files)) }
     ensures bound { IfOk result (λ found. IfSome found (λ piece. length piece.bytes ≤ len)) }
     ensures object { is_object key.now ≡ true }
 {
     let name = key.as_bytes();
-    begin(disk, alloc, writer)?;
+    begin(disk, alloc, writer, doubt)?;
     disk.read(alloc, name, from, len)
 }
 
+// Takes an object out, where nothing is in doubt.
+fn take_out_sure<D: Disk>(disk: &mut D, doubt: &mut Option<Doubt>, key: &Key) -> Result<(), Trouble>
+    requires { doubt.old ≡ None }
+    ensures { Where (D.told disk.old) (D.told disk.new) (Takes key.now result None doubt.new (D.may_leave disk.old) (D.may_leave disk.new)) }
+{
+    let name = key.as_bytes();
+    *doubt = Some(Doubt::Taken(*key));
+    match disk.remove(name) {
+        Ok(()) => match disk.sync(name) {
+            Ok(()) => {
+                *doubt = None;
+                Ok(())
+            }
+            Err(trouble) => Err(trouble),
+        },
+        Err(trouble) => Err(trouble),
+    }
+}
+
 /// Takes an object out.
-pub fn take_out<D: Disk>(disk: &mut D, is_writer: bool, key: &Key) -> Result<(), Trouble>
-    ensures { Where (D.told disk.old) (D.told disk.new) (Takes key.now result (D.may_leave disk.old) (D.may_leave disk.new)) }
+pub fn take_out<D: Disk>(
+    disk: &mut D,
+    alloc: Global,
+    is_writer: bool,
+    doubt: &mut Option<Doubt>,
+    key: &Key,
+) -> Result<(), Trouble>
+    ensures { Where (D.told disk.old) (D.told disk.new) (Takes key.now result doubt.old doubt.new (D.may_leave disk.old) (D.may_leave disk.new)) }
 {
     match disk.claim() {
         Ok(()) => {}
@@ -104,10 +154,10 @@ pub fn take_out<D: Disk>(disk: &mut D, is_writer: bool, key: &Key) -> Result<(),
     if !is_writer {
         return Err(Trouble::of("removing", "the store is only read"));
     }
-    let name = key.as_bytes();
-    match disk.remove(name) {
-        Ok(()) => disk.sync(name),
-        Err(trouble) => Err(trouble),
+    match settle(disk, alloc, doubt) {
+        Ok(()) => take_out_sure(disk, doubt, key),
+        Err(DiskError::Memory(refused)) => Err(Trouble::from(refused)),
+        Err(DiskError::Failed(trouble)) => Err(trouble),
     }
 }
 
@@ -199,17 +249,19 @@ pub fn keys_of<D: Disk>(
     disk: &mut D,
     alloc: Global,
     writer: &mut Option<Writer>,
+    doubt: &mut Option<Doubt>,
     walk: Option<Walk>,
     prefix: &Key,
     after: Option<&Key>,
     max: u32,
 ) -> Result<Page, DiskError>
     requires { IfSome (D.told disk.old) (λ files. IfSome walk (λ walk. IsCovering walk files)) }
-    ensures keeps { Where (D.told disk.old) (D.told disk.new) (KeepsObjects (D.may_leave disk.old) (D.may_leave disk.new)) }
+    ensures ready { Where (D.told disk.old) (D.told disk.new) (Readies doubt.old doubt.new (D.may_leave disk.old) (D.may_leave disk.new)) }
+    ensures sure { IfOk result (λ _. doubt.new ≡ None) }
     ensures bound { IfOk result (λ page. length page.keys ≤ max) }
     ensures keys { IfOk result (λ page. IfSome (D.told disk.new) (λ files. page.keys ≡ take max (listed prefix.now (option_copied after.entry) (objects_of files)))) }
     ensures covers { IfOk result (λ page. IfSome (D.told disk.new) (λ files. IfSome page.walk (λ walk. IsCovering walk files))) }
 {
-    begin(disk, alloc, writer)?;
+    begin(disk, alloc, writer, doubt)?;
     page_of(disk, alloc, walk, prefix, after, max)
 }

@@ -1,17 +1,39 @@
 //! The sequence that makes an object.
 
-ghost use Rattle.std.specs.Prelude.{◌≡◌, ◌≤◌, List, ℕ, false, true, IfOk, IfErr};
+ghost use Rattle.std.specs.Prelude.{◌≡◌, ◌≤◌, List, ℕ, None, false, true, IfOk, IfErr, IfSome};
+ghost use Rattle.std.specs.FinMap.{get};
 ghost use Rattle.real_edge.specs.Disk.{Where, Makes, Leaves};
 ghost use Rattle.real_edge.specs.Names.{is_object};
-ghost use Rattle.real_edge.specs.Objects.{Places, Made, KeepsObjects, both_of};
+ghost use Rattle.real_edge.specs.Objects.{Places, Made as IsMade, KeepsObjects, both_of, doubt_of, key_in};
 
 use crate::disk::{Disk, DiskError, MakeError, Standing};
 use crate::faults::Trouble;
 use crate::object_names::{folder_len, name_beside};
+use object_store::Key;
 use std::alloc::{AllocError, Global};
 
 /// How many names are tried for a file beside.
 const TRIES: u32 = 1_000;
+
+/// A change of an object that may not be on the disk.
+#[derive(Clone, Copy)]
+pub enum Doubt {
+    /// One was made under this key.
+    Placed(Key),
+    /// The one under this key was taken out.
+    Taken(Key),
+}
+
+impl Doubt {
+    pub fn key(self) -> Key
+        ensures { result ≡ key_in self }
+    {
+        match self {
+            Doubt::Placed(key) => key,
+            Doubt::Taken(key) => key,
+        }
+    }
+}
 
 /// Who writes a folder: the number in the names of its files beside, and how many of those it named.
 #[derive(Drop)]
@@ -50,7 +72,7 @@ fn make_beside<D: Disk>(
     content: &[u8],
 ) -> Result<Vec<u8>, DiskError>
     ensures name { IfOk result (λ beside. is_object beside.items ≡ false) }
-    ensures made { IfOk result (λ beside. Where (D.told disk.old) (D.told disk.new) (Made beside.items content.now (D.may_leave disk.old) (D.may_leave disk.new))) }
+    ensures made { IfOk result (λ beside. Where (D.told disk.old) (D.told disk.new) (IsMade beside.items content.now (D.may_leave disk.old) (D.may_leave disk.new))) }
     ensures failed { IfErr result (λ _. Where (D.told disk.old) (D.told disk.new) (KeepsObjects (D.may_leave disk.old) (D.may_leave disk.new))) }
     ensures ways { (q : List ℕ) → D.has_way disk.old q → D.has_way disk.new q }
 {
@@ -79,28 +101,46 @@ fn both(linked: Result<(), MakeError>, removed: Result<(), Trouble>) -> Result<(
     }
 }
 
+// What is in doubt behind a link.
+fn doubt_of(linked: &Result<(), MakeError>, key: &Key) -> Option<Doubt>
+    ensures { result ≡ doubt_of linked.now key.now }
+{
+    match linked {
+        Ok(()) | Err(MakeError::Failed(_)) => Some(Doubt::Placed(*key)),
+        Err(MakeError::Exists) | Err(MakeError::Memory(_)) => None,
+    }
+}
+
 // The file beside, a link to it under the object's name, the name beside away, and the folder on the disk.
 fn place_new<D: Disk>(
     disk: &mut D,
     alloc: Global,
     writer: &mut Writer,
-    name: &[u8],
+    doubt: &mut Option<Doubt>,
+    key: &Key,
     content: &[u8],
 ) -> Result<(), MakeError>
-    requires object { is_object name.now ≡ true }
-    requires way { D.has_way disk.old name.now }
-    ensures { Where (D.told disk.old) (D.told disk.new) (Places name.now content.now result (D.may_leave disk.old) (D.may_leave disk.new)) }
+    requires object { is_object key.now ≡ true }
+    requires way { D.has_way disk.old key.now }
+    requires absent { IfSome (D.told disk.old) (λ files. get files key.now ≡ None) }
+    requires sure { doubt.old ≡ None }
+    ensures { Where (D.told disk.old) (D.told disk.new) (Places key.now content.now result doubt.new (D.may_leave disk.old) (D.may_leave disk.new)) }
 {
+    let name = key.as_bytes();
     let beside = match make_beside(disk, alloc, writer, &name[..folder_len(name)], content) {
         Ok(beside) => beside,
         Err(DiskError::Memory(refused)) => return Err(MakeError::Memory(refused)),
         Err(DiskError::Failed(trouble)) => return Err(MakeError::Failed(trouble)),
     };
     let linked = disk.link(alloc, beside.as_slice(), name);
+    *doubt = doubt_of(&linked, key);
     let removed = disk.remove(beside.as_slice());
     match both(linked, removed) {
         Ok(()) => match disk.sync(name) {
-            Ok(()) => Ok(()),
+            Ok(()) => {
+                *doubt = None;
+                Ok(())
+            }
             Err(trouble) => Err(MakeError::Failed(trouble)),
         },
         Err(fault) => Err(fault),
@@ -112,19 +152,22 @@ pub fn place<D: Disk>(
     disk: &mut D,
     alloc: Global,
     writer: &mut Writer,
-    name: &[u8],
+    doubt: &mut Option<Doubt>,
+    key: &Key,
     content: &[u8],
 ) -> Result<(), MakeError>
-    requires object { is_object name.now ≡ true }
-    ensures { Where (D.told disk.old) (D.told disk.new) (Places name.now content.now result (D.may_leave disk.old) (D.may_leave disk.new)) }
+    requires object { is_object key.now ≡ true }
+    requires sure { doubt.old ≡ None }
+    ensures { Where (D.told disk.old) (D.told disk.new) (Places key.now content.now result doubt.new (D.may_leave disk.old) (D.may_leave disk.new)) }
 {
+    let name = key.as_bytes();
     match disk.make_way(alloc, name) {
         Ok(()) => {}
         Err(DiskError::Memory(refused)) => return Err(MakeError::Memory(refused)),
         Err(DiskError::Failed(trouble)) => return Err(MakeError::Failed(trouble)),
     }
     match disk.look(name) {
-        Ok(Standing::Nothing) => place_new(disk, alloc, writer, name, content),
+        Ok(Standing::Nothing) => place_new(disk, alloc, writer, doubt, key, content),
         Ok(Standing::PlainFile) => Err(MakeError::Exists),
         Ok(_) => {
             let why = Trouble::of("making", "what stands there is no plain file");
