@@ -1,14 +1,11 @@
 //! A life of an index over a disk in memory: it is made, indexes a log, is opened anew, indexes the rest, and is searched.
 
-use crate::book::Book;
-use crate::memory_disk::MemoryDisk;
-use crate::memory_files::MemoryFiles;
-use crate::wrong::Wrong;
 use clock_time::ScriptClock;
+use edge_ground::{Book, Ground, MemoryFiles, STORE, Wrong};
 use index_world::{Unopened, World, WorldError};
 use node_run::{Accepts, DriveNode, Line, LineError, Unstarted, read_line};
 use object_store::ObjectStore;
-use real_edge::{FileLog, FolderStore};
+use real_edge::{FileLog, FolderStore, HostFiles};
 use source_log::SourceLog;
 use std::alloc::{AllocError, Global};
 use std::mem;
@@ -25,8 +22,7 @@ const STEPS: u64 = 60;
 #[derive(Clone, Copy)]
 pub struct Session<'a> {
     pub alloc: Global,
-    pub disk: &'a MemoryDisk,
-    pub files: &'a MemoryFiles,
+    pub ground: &'a Ground,
     pub writer: u64,
     /// It ends behind so many splits, and is not searched. Without it, it goes on until all is indexed, and is searched.
     pub splits: Option<u64>,
@@ -183,23 +179,39 @@ fn start<S: ObjectStore + Drop, L: SourceLog>(
 impl<'a> Session<'a> {
     /// Opens the index, indexes, and searches.
     pub fn play<Rt: Threads + Sync>(&self, rt: &Rt, book: &mut Book) -> Result<Told, Wrong> {
-        let logs = self.logs()?;
-        match FolderStore::writing(self.alloc, self.files, "store", self.writer) {
-            Ok(store) => self.play_over(rt, book, store, logs),
-            Err(refused) => {
-                mem::drop(logs);
-                Err(Wrong::from(refused))
+        match &self.ground.disk {
+            Some(disk) => {
+                let store = FolderStore::writer_of(self.alloc, disk.share()?, self.writer)?;
+                self.play_over(rt, book, store)
+            }
+            None => {
+                let store = FolderStore::writing(
+                    self.alloc,
+                    &self.ground.files,
+                    STORE,
+                    self.writer,
+                )?;
+                self.play_over(rt, book, store)
             }
         }
     }
 
-    fn logs(&self) -> Result<Vec<FileLog<'a, MemoryFiles>>, Wrong> {
-        let log = FileLog::over(self.alloc, self.files, "logs")?;
+    fn logs(&self) -> Result<Vec<FileLog<HostFiles<'a, MemoryFiles>>>, AllocError> {
+        let log = FileLog::over(self.alloc, &self.ground.files, "logs")?;
         let mut logs = Vec::new(self.alloc);
-        match logs.push(log) {
-            Ok(()) => Ok(logs),
+        logs.push(log)?;
+        Ok(logs)
+    }
+
+    // A node over a world and the logs.
+    fn start<S: ObjectStore + Drop>(
+        &self,
+        world: World<S, ScriptClock>,
+    ) -> Result<DriveNode<S, FileLog<HostFiles<'a, MemoryFiles>>>, Wrong> {
+        match self.logs() {
+            Ok(logs) => start(self.alloc, world, logs),
             Err(refused) => {
-                mem::drop(logs);
+                mem::drop(world.unload());
                 Err(Wrong::from(refused))
             }
         }
@@ -208,30 +220,28 @@ impl<'a> Session<'a> {
     // A life whose index was not opened ends with that.
     fn end(&self, book: &mut Book, error: &WorldError) -> Result<Told, Wrong> {
         is_fault(self.alloc, error)?;
-        book.look(self.disk, false)?;
+        book.look(self.ground, false)?;
         Ok(Told {
             fault: true,
             found: false,
         })
     }
 
-    fn play_over<Rt: Threads + Sync, S: ObjectStore + Drop, L: SourceLog>(
+    fn play_over<Rt: Threads + Sync, S: ObjectStore + Drop>(
         &self,
         rt: &Rt,
         book: &mut Book,
         store: S,
-        logs: Vec<L>,
     ) -> Result<Told, Wrong> {
         let world = match open(self.alloc, store) {
             Ok(world) => world,
             Err(error) => {
-                mem::drop(logs);
                 let told = self.end(book, &error);
                 mem::drop(error);
                 return told;
             }
         };
-        let mut node = start(self.alloc, world, logs)?;
+        let mut node = self.start(world)?;
         let told = self.run(rt, book, &mut node);
         let (store, logs) = node.finish_with_logs();
         mem::drop(store);
@@ -245,7 +255,7 @@ impl<'a> Session<'a> {
         book: &mut Book,
         node: &mut DriveNode<S, L>,
     ) -> Result<Told, Wrong> {
-        book.look(self.disk, true)?;
+        book.look(self.ground, true)?;
         let indexed = self.index(rt, book, node)?;
         if self.splits.is_some() || !indexed.found {
             return Ok(Told {
@@ -268,7 +278,7 @@ impl<'a> Session<'a> {
     ) -> Result<Said, Wrong> {
         let text = answered(rt, self.alloc, node, "indexer 0")?;
         let said = Said::of(self.alloc, text.as_str())?;
-        book.look(self.disk, !said.is_fault())?;
+        book.look(self.ground, !said.is_fault())?;
         Ok(said)
     }
 
@@ -295,11 +305,11 @@ impl<'a> Session<'a> {
                 Said::StoreFault | Said::SourceFault => told.fault = true,
             }
             passes_over = said.passes_over(passes_over);
-            if told.found || self.splits == Some(published) || self.disk.state()?.is_dead() {
+            if told.found || self.splits == Some(published) || self.ground.course()?.is_dead() {
                 return Ok(told);
             }
         }
-        if self.disk.state()?.is_sound() {
+        if self.ground.course()?.is_sound() {
             return Err(Wrong::seen(self.alloc, "the indexer", "never ends"));
         }
         Ok(told)

@@ -5,13 +5,9 @@
 
 ghost use Rattle.std.specs.Prelude.{◌≤◌};
 
-mod book;
-mod failing;
 mod lives;
-mod memory_disk;
-mod memory_files;
 mod table;
-mod wrong;
+mod trial;
 
 use crate::table::play_table;
 use object_store::{CreateError, GetError, Key, ObjectStore};

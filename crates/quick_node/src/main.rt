@@ -18,7 +18,7 @@ use crate::reasons::{Reasoned, tell_logs, tell_reason, tell_status};
 use crate::serving::serve_with_logs;
 use command_words::{Command, read_words};
 use object_store::{ObjectStore, SteadyStore};
-use real_edge::{FileLog, FolderStore, HostDisk, StdSink, StdSource, SystemClock};
+use real_edge::{FileLog, FolderStore, HostDisk, HostFiles, StdSink, StdSource, SystemClock};
 use run_progress::{CountedStore, EndingSink, Kind, Progress, ProgressClock, count_logs};
 use source_log::{MemoryLog, SourceLog};
 use std::alloc::{AllocError, Global};
@@ -70,7 +70,7 @@ fn folder_logs<'a, F: Files>(
     alloc: Global,
     files: &'a F,
     folder: &str,
-) -> Result<Vec<FileLog<'a, F>>, AllocError> {
+) -> Result<Vec<FileLog<HostFiles<'a, F>>>, AllocError> {
     let mut logs = Vec::new(alloc);
     for _ in 0..READERS {
         logs.push(FileLog::over(alloc, files, folder)?)?;

@@ -2,10 +2,9 @@
 
 use node_run::Logs;
 use object_store::{ObjectStore, SteadyStore};
-use real_edge::{Disk, FileLog, FolderStore, Reason};
+use real_edge::{Disk, FileLog, FolderStore, GrowingFiles, Reason};
 use run_progress::{CountedLog, CountedStore};
 use source_log::{MemoryLog, SourceLog};
-use std::fs::Files;
 use std::time;
 
 const USAGE: &str = "usage: quick_node STORE LOGS COMMAND
@@ -37,7 +36,7 @@ impl Reasoned for SteadyStore {
     }
 }
 
-impl<'a, F: Files> Reasoned for FileLog<'a, F> {
+impl<G: GrowingFiles> Reasoned for FileLog<G> {
     fn first_reason(&self) -> Option<&Reason> {
         self.first_reason()
     }

@@ -9,7 +9,8 @@ use Rattle.object_store.specs.declared.store.GetError.{GetError}
 use Rattle.object_store.specs.declared.store.GetError.TheVariants as gets
 use Rattle.object_store.specs.declared.store.ListError.{ListError}
 use Rattle.object_store.specs.declared.store.Piece.{Piece}
-use Rattle.object_store.specs.Store.{State, AfterLanding, Creates, Gets, Deletes, Lists, Finds, IsPieceOf, is_wanted, listed}
+use Rattle.object_store.specs.declared.store.CreateError.TheVariants as made
+use Rattle.object_store.specs.Store.{State, AfterLanding, Creates, Gets, Deletes, Lists, Finds, IsPieceOf, is_wanted, listed, with_object, without_object}
 use Rattle.real_edge.specs.declared.faults.Trouble.{Trouble}
 use Rattle.real_edge.specs.declared.disk.DiskError.{DiskError}
 use Rattle.real_edge.specs.declared.disk.DiskError.TheVariants as reads
@@ -20,11 +21,11 @@ use Rattle.real_edge.specs.declared.folder_walk.Walk.{Walk}
 use Rattle.real_edge.specs.Disk.{Files, Where, NoMore, MayTurn, Removes, Reads, IsSettled, IsSafe, Leaves}
 use Rattle.real_edge.specs.Names.{is_object}
 use Rattle.real_edge.specs.Answers.{get_answer}
-use Rattle.real_edge.specs.Objects.{objects_of, state_of, state_in, create_answer, delete_answer, KeepsObjects, KeepsSafe, Places, IsPlaced, IsTaken, Takes}
+use Rattle.real_edge.specs.Objects.{objects_of, state_of, state_in, create_answer, delete_answer, IsSure, Showing, Comes, Goes, StaysSure, KeepsObjects, KeepsSafe, Places, IsPlaced, IsTaken, Takes}
 use Rattle.real_edge.specs.Walk.{Covers, IsCovering}
-use Rattle.real_edge.proofs.Maps.{get_here}
-use Rattle.real_edge.proofs.Steps.{state_kept, safe_shown, untaken, half_taken, taken_unsynced, taken_synced}
-use Rattle.real_edge.proofs.Wheres.{where_map, where_then, where_same, where_beside, if_then, if_said, works}
+use Rattle.real_edge.proofs.Maps.{get_here, same_objects, objects-insert, objects-remove, cases_same, apart}
+use Rattle.real_edge.proofs.Steps.{state_kept, safe_shown, sure_kept, get_new, get_other, get_left, gone}
+use Rattle.real_edge.proofs.Wheres.{where_map, where_then, where_same, where_beside, if_then, if_said, works, works_lost}
 use Rattle.real_edge.proofs.Walks.{covers_kept, differs}
 
 -- ---- making
@@ -35,61 +36,117 @@ on_disk_of name content (Err makes.Exists) after h = tt
 on_disk_of name content (Err (makes.Failed t)) after h = tt
 on_disk_of name content (Err (makes.Memory e)) after h = tt
 
-pub if_placed : (a b : Option Files) (name content : List ℕ) (r : Result (Unit {0}) MakeError) (l m : Files → Type 0) → Where a b (Places name content r l m) → IfSome a (λ _. IsPlaced name content (create_answer r) l m)
-if_placed a b name content r l m h =
-    if_said a b {P = Places name content r l m} {R = IsPlaced name content (create_answer r) l m} (λ o n p. record { on_disk = on_disk_of name content r m p.on_disk; keeps = p.keeps }) h
+pub if_placed : (a b : Option Files) (name content : List ℕ) (r : Result (Unit {0}) MakeError) (is_lost : Bool) (l m : Files → Type 0) → Where a b (Places name content r is_lost l m) → IfSome a (λ _. IsPlaced name content (create_answer r) l m)
+if_placed a b name content r is_lost l m h =
+    if_said a b {P = Places name content r is_lost l m} {R = IsPlaced name content (create_answer r) l m} (λ o n p. record { on_disk = on_disk_of name content r m p.on_disk; keeps = p.keeps }) h
 
-pub creates : (a b : Option Files) (name content : List ℕ) (r : Result (Unit {0}) MakeError) (l m : Files → Type 0) → Where a b (Places name content r l m) → AfterLanding (state_in a) (state_in b) (Creates name content (create_answer r))
-creates a b name content r l m h = works a b (Creates name content (create_answer r)) {P = Places name content r l m} (λ o n p. p.creates) h
+-- what a crash leaves of the objects but one, which came or did not
+same_state : (m n : Files) → ((q : List ℕ) → is_object q ≡ true → finmap.get m q ≡ finmap.get n q) → state_of m ≡ state_of n
+same_state m n e = λ i. record { objects = same_objects m n e i; late = [] }
+
+module _ (name : List ℕ) (o d c : Files) (others : (q : List ℕ) → is_object q ≡ true → q ≢ name → finmap.get c q ≡ finmap.get d q) (s : (q : List ℕ) → is_object q ≡ true → finmap.get d q ≡ finmap.get o q) where
+  -- no object has this name
+  no_object : is_object name ≡ false → state_of c ≡ state_of o
+  no_object not = same_state c o (λ q isq. others q isq (apart q name isq not) ∙ s q isq)
+
+  -- it has what it had
+  was_here : finmap.get c name ≡ finmap.get d name → state_of c ≡ state_of o
+  was_here e = same_state c o (λ q isq. by q isq (cases_same q name))
+    where
+      by : (q : List ℕ) → is_object q ≡ true → (q ≡ name) ⊎ (q ≢ name) → finmap.get c q ≡ finmap.get o q
+      by q isq (inl same) = ap (finmap.get c) same ∙ e ∙ sym (ap (finmap.get d) same) ∙ s q isq
+      by q isq (inr ne) = others q isq ne ∙ s q isq
+
+  -- it came
+  came_here : (content : List ℕ) → is_object name ≡ true → finmap.get c name ≡ Some content → state_of c ≡ with_object (state_of o) name content
+  came_here content is e = same_state c (finmap.insert o name content) (λ q isq. by q isq (cases_same q name)) ∙ (λ i. record { objects = objects-insert o name content is i; late = [] })
+    where
+      by : (q : List ℕ) → is_object q ≡ true → (q ≡ name) ⊎ (q ≢ name) → finmap.get c q ≡ finmap.get (finmap.insert o name content) q
+      by q isq (inl same) = ap (finmap.get c) same ∙ e ∙ sym (get_new o name content) ∙ sym (ap (finmap.get (finmap.insert o name content)) same)
+      by q isq (inr ne) = others q isq ne ∙ s q isq ∙ sym (get_other o name content q ne)
+
+  -- it went
+  went_here : finmap.get c name ≡ None → state_of c ≡ without_object (state_of o) name
+  went_here e = same_state c (finmap.remove o name) (λ q isq. by q isq (cases_same q name)) ∙ (λ i. record { objects = objects-remove o name i; late = [] })
+    where
+      by : (q : List ℕ) → is_object q ≡ true → (q ≡ name) ⊎ (q ≢ name) → finmap.get c q ≡ finmap.get (finmap.remove o name) q
+      by q isq (inl same) = ap (finmap.get c) same ∙ e ∙ sym (gone o name) ∙ sym (ap (finmap.get (finmap.remove o name)) same)
+      by q isq (inr ne) = others q isq ne ∙ s q isq ∙ sym (get_left o name q ne)
+
+-- a create whose object a crash leaves or not
+lost_create : (name content : List ℕ) (r : Result (Unit {0}) MakeError) (l m : Files → Type 0) (o n c : Files) → IsSure l o → m c → Places name content r true l m o n → Creates name content (create_answer r) (state_of o) (state_of c)
+lost_create name content r l m o n c s left p =
+    let d = p.turns c left in
+    let f = p.fails refl in
+    subst (λ (x : Result (Unit {0}) MakeError). Creates name content (create_answer x) (state_of o) (state_of c)) (sym f.1) (by d.0 d.2 (s d.0 d.1) (is_object name) refl)
+  where
+    by : (d : Files) → Showing name (Comes name content o) d c → ((q : List ℕ) → is_object q ≡ true → finmap.get d q ≡ finmap.get o q) → (b : Bool) → is_object name ≡ b → Creates name content (Err made.Failed) (state_of o) (state_of c)
+    by d h same false not = inr (inr (no_object name o d c h.others same not))
+    by d h same true is = elim (h.here is) [
+      | inl e ↦ inr (inr (was_here name o d c h.others same e))
+      | inr e ↦ inl (get_here o name is ∙ e.0, came_here name o d c h.others same content is e.1)
+    ]
+
+pub creates : (is_lost : Bool) (a b : Option Files) (fa fb : Files) (name content : List ℕ) (r : Result (Unit {0}) MakeError) (l m : Files → Type 0) → IfSome a (IsSure l) → IfSome b (λ _. m fb) → Where a b (Places name content r is_lost l m)
+    → AfterLanding (state_in a false fa) (state_in b is_lost fb) (Creates name content (create_answer r))
+creates false a b fa fb name content r l m s left h = works a b fa fb (Creates name content (create_answer r)) {P = Places name content r false l m} (λ o n p. p.creates) h
+creates true a b fa fb name content r l m s left h =
+    works_lost a b fa fb (Creates name content (create_answer r)) {P = Places name content r true l m} {Q = IsSure l} {R = m fb} (λ o n q k p. lost_create name content r l m o n fb q k p) h s left
 
 -- ---- removing
 
-turn_more : (name : List ℕ) (x : Option (List ℕ)) (l m n : Files → Type 0) → NoMore l m → MayTurn name x m n → MayTurn name x l n
-turn_more name x l m n more h c left = let d = h c left in (d.0, more d.0 d.1, d.2)
-
-removes_more : (name : List ℕ) (r : Result (Unit {0}) Trouble) (l m n : Files → Type 0) (o f : Files) → NoMore l m → Removes name r m n o f → Removes name r l n o f
-removes_more name (Ok done) l m n o f more h = (h.0, turn_more name None l m n more h.1)
-removes_more name (Err t) l m n o f more h = (h.0, turn_more name None l m n more h.1)
-
-pub where_untaken : (a b : Option Files) (name : List ℕ) (t : Trouble) (l m : Files → Type 0) (u v : List ℕ → Type 0) → Leaves a b l m u v → Where a b (Takes name (Err t) l m)
-where_untaken a b name t l m u v h = where_same a b (Takes name (Err t) l m) (λ f. untaken name t l m f h.left) h.same
-
-pub where_half_taken : (a b c : Option Files) (name : List ℕ) (t : Trouble) (l m n : Files → Type 0) (u v : List ℕ → Type 0) → Leaves a b l m u v → Where b c (Removes name (Err t) m n) → Where a c (Takes name (Err t) l n)
-where_half_taken a b c name t l m n u v h k =
-    subst (λ (x : Option Files). Where x c (Takes name (Err t) l n)) h.same
-    (where_map b c {P = Removes name (Err t) m n} {Q = Takes name (Err t) l n} (λ o f p. half_taken name t l n o f (removes_more name (Err t) l m n o f h.left p)) k)
-
-pub where_taken : (a b c d : Option Files) (name : List ℕ) (l m n p : Files → Type 0) (u v w x : List ℕ → Type 0) → Leaves a b l m u v → Where b c (Removes name (Ok tt) m n) → Leaves c d n p w x
-    → IfSome c (λ f. IsSettled name w f p) → Where a d (Takes name (Ok tt) l p)
-where_taken a b c d name l m n p u v w x h k s settled =
-    subst (λ (y : Option Files). Where a y (Takes name (Ok tt) l p)) (sym s.same)
-    (subst (λ (y : Option Files). Where y c (Takes name (Ok tt) l p)) h.same
-    (where_beside b c {P = Removes name (Ok tt) m n} {R = Takes name (Ok tt) l p} {Q = λ f. IsSettled name w f p}
-    (λ o f q r. taken_synced name w l n p o f q s.left (removes_more name (Ok tt) l m n o f h.left r)) settled k))
-
-pub where_taken_unsynced : (a b c d : Option Files) (name : List ℕ) (t : Trouble) (l m n p : Files → Type 0) (u v w x : List ℕ → Type 0) → Leaves a b l m u v → Where b c (Removes name (Ok tt) m n) → Leaves c d n p w x
-    → Where a d (Takes name (Err t) l p)
-where_taken_unsynced a b c d name t l m n p u v w x h k s =
-    subst (λ (y : Option Files). Where a y (Takes name (Err t) l p)) (sym s.same)
-    (subst (λ (y : Option Files). Where y c (Takes name (Err t) l p)) h.same
-    (where_map b c {P = Removes name (Ok tt) m n} {Q = Takes name (Err t) l p}
-    (λ o f r. taken_unsynced name t l n p o f s.left (removes_more name (Ok tt) l m n o f h.left r)) k))
-
--- the sync behind a removal, whatever it answers
-pub where_out : (a b c d : Option Files) (name : List ℕ) (r : Result (Unit {0}) Trouble) (l m n p : Files → Type 0) (u v w x : List ℕ → Type 0) → Leaves a b l m u v → Where b c (Removes name (Ok tt) m n) → Leaves c d n p w x
-    → IfOk r (λ _. IfSome c (λ f. IsSettled name w f p)) → Where a d (Takes name r l p)
-where_out a b c d name (Ok done) l m n p u v w x h k s settled = where_taken a b c d name l m n p u v w x h k s settled
-where_out a b c d name (Err t) l m n p u v w x h k s settled = where_taken_unsynced a b c d name t l m n p u v w x h k s
+lost_delete : (name : List ℕ) (r : Result (Unit {0}) Trouble) (l m : Files → Type 0) (o n c : Files) → IsSure l o → m c → Takes name r true l m o n → Deletes name (delete_answer r) (state_of o) (state_of c)
+lost_delete name r l m o n c s left p =
+    let d = p.turns c left in
+    let f = p.fails refl in
+    subst (λ (x : Result (Unit {0}) Trouble). Deletes name (delete_answer x) (state_of o) (state_of c)) (sym f.1) (by d.0 d.2 (s d.0 d.1) (is_object name) refl)
+  where
+    by : (d : Files) → Showing name Goes d c → ((q : List ℕ) → is_object q ≡ true → finmap.get d q ≡ finmap.get o q) → (b : Bool) → is_object name ≡ b → Deletes name (Err record {}) (state_of o) (state_of c)
+    by d h same false not = inr (no_object name o d c h.others same not)
+    by d h same true is = elim (h.here is) [
+      | inl e ↦ inr (was_here name o d c h.others same e)
+      | inr e ↦ inl (went_here name o d c h.others same e)
+    ]
 
 taken_answer : (name : List ℕ) (r : Result (Unit {0}) Trouble) (l m : Files → Type 0) → IsTaken name r l m → IsTaken name (delete_answer r) l m
 taken_answer name (Ok done) l m h = record { gone = h.gone; keeps = h.keeps }
 taken_answer name (Err t) l m h = record { gone = tt; keeps = h.keeps }
 
-pub if_taken : (a b : Option Files) (name : List ℕ) (r : Result (Unit {0}) Trouble) (l m : Files → Type 0) → Where a b (Takes name r l m) → IfSome a (λ _. IsTaken name (delete_answer r) l m)
-if_taken a b name r l m h = if_said a b {P = Takes name r l m} {R = IsTaken name (delete_answer r) l m} (λ o n p. taken_answer name r l m p.taken) h
+pub if_taken : (a b : Option Files) (name : List ℕ) (r : Result (Unit {0}) Trouble) (is_lost : Bool) (l m : Files → Type 0) → Where a b (Takes name r is_lost l m) → IfSome a (λ _. IsTaken name (delete_answer r) l m)
+if_taken a b name r is_lost l m h = if_said a b {P = Takes name r is_lost l m} {R = IsTaken name (delete_answer r) l m} (λ o n p. taken_answer name r l m p.taken) h
 
-pub deletes : (a b : Option Files) (name : List ℕ) (r : Result (Unit {0}) Trouble) (l m : Files → Type 0) → Where a b (Takes name r l m) → AfterLanding (state_in a) (state_in b) (Deletes name (delete_answer r))
-deletes a b name r l m h = works a b (Deletes name (delete_answer r)) {P = Takes name r l m} (λ o n p. p.deletes) h
+pub deletes : (is_lost : Bool) (a b : Option Files) (fa fb : Files) (name : List ℕ) (r : Result (Unit {0}) Trouble) (l m : Files → Type 0) → IfSome a (IsSure l) → IfSome b (λ _. m fb) → Where a b (Takes name r is_lost l m)
+    → AfterLanding (state_in a false fa) (state_in b is_lost fb) (Deletes name (delete_answer r))
+deletes false a b fa fb name r l m s left h = works a b fa fb (Deletes name (delete_answer r)) {P = Takes name r false l m} (λ o n p. p.deletes) h
+deletes true a b fa fb name r l m s left h =
+    works_lost a b fa fb (Deletes name (delete_answer r)) {P = Takes name r true l m} {Q = IsSure l} {R = m fb} (λ o n q k p. lost_delete name r l m o n fb q k p) h s left
+
+-- ---- what a crash leaves is what is seen
+
+pub sure_in : (t : Option Files) (is_lost : Bool) (l : Files → Type 0) → ((f : Files) → t ≡ Some f → is_lost ≡ false → IsSure l f) → is_lost ≡ false → IfSome t (IsSure l)
+sure_in None is_lost l h kept = tt
+sure_in (Some f) is_lost l h kept = h f refl kept
+
+pub sure_out : (t : Option Files) (is_lost : Bool) (l : Files → Type 0) → IfSome t (λ f. is_lost ≡ false → IsSure l f) → (f : Files) → t ≡ Some f → is_lost ≡ false → IsSure l f
+sure_out t is_lost l h f is = subst (λ (o : Option Files). IfSome o (λ x. is_lost ≡ false → IsSure l x)) is h
+
+pub sure_by : (a b : Option Files) (is_lost : Bool) (l m : Files → Type 0) {P : Files → Files → Type 0} → ((o n : Files) → P o n → StaysSure is_lost l m o n) → IfSome a (IsSure l) → Where a b P → IfSome b (λ f. is_lost ≡ false → IsSure m f)
+sure_by a b is_lost l m {P} stays s h = if_then a b {P = P} {Q = IsSure l} {R = λ f. is_lost ≡ false → IsSure m f} (λ o n q p kept. stays o n p kept q) s h
+
+pub sure_still : (a b : Option Files) (is_lost : Bool) (l m : Files → Type 0) → IfSome a (IsSure l) → Where a b (KeepsObjects l m) → IfSome b (λ f. is_lost ≡ false → IsSure m f)
+sure_still a b is_lost l m s h = sure_by a b is_lost l m {P = KeepsObjects l m} (λ o n p kept q. sure_kept l m o n p q) s h
+
+some_is : (x y : State) → ◌≡◌ {A = Option State} (Some x) (Some y) → x ≡ y
+some_is x y e = cc
+
+-- a store tells what a crash leaves
+pub told_left : (t : Option Files) (is_lost : Bool) (c : Files) (l : Files → Type 0) (s : State) → ((f : Files) → t ≡ Some f → is_lost ≡ false → IsSure l f) → IfSome t (λ _. l c) → state_in t is_lost c ≡ Some s → s ≡ state_of c
+told_left None is_lost c l s sure left e = absurd (none_is s e)
+  where
+    none_is : (x : State) → ◌≡◌ {A = Option State} None (Some x) → ⊥
+    none_is x e = cc
+told_left (Some f) true c l s sure left e = sym (some_is (state_of c) s e)
+told_left (Some f) false c l s sure left e = sym (some_is (state_of f) s e) ∙ sym (same_state c f (sure f refl refl c left))
 
 -- ---- reading
 
@@ -100,32 +157,32 @@ finds_of : (key : List ℕ) (from len : ℕ) (piece : Piece) (l m : Files → Ty
 finds_of key from len piece l m o n is k h =
     subst (λ (x : Option (List ℕ)). Finds x from len (Ok piece)) (sym (get_here o key is ∙ sym (k.same key is) ∙ h.1)) h.2
 
-pub gets_found : (a b : Option Files) (key : List ℕ) (from len : ℕ) (piece : Piece) (l m : Files → Type 0) → is_object key ≡ true → Where a b (KeepsObjects l m) → IfSome b (λ f. Reads key from len (Some piece) f)
-    → AfterLanding (state_in a) (state_in b) (Gets key from len (Ok piece))
-gets_found a b key from len piece l m is k h =
-    works a b (Gets key from len (Ok piece)) {P = λ o n. KeepsObjects l m o n × Reads key from len (Some piece) n}
+pub gets_found : (a b : Option Files) (fa fb : Files) (key : List ℕ) (from len : ℕ) (piece : Piece) (l m : Files → Type 0) → is_object key ≡ true → Where a b (KeepsObjects l m) → IfSome b (λ f. Reads key from len (Some piece) f)
+    → AfterLanding (state_in a false fa) (state_in b false fb) (Gets key from len (Ok piece))
+gets_found a b fa fb key from len piece l m is k h =
+    works a b fa fb (Gets key from len (Ok piece)) {P = λ o n. KeepsObjects l m o n × Reads key from len (Some piece) n}
     (λ o n p. (state_kept l m o n p.0, finds_of key from len piece l m o n is p.0 p.1))
     (where_beside a b {P = KeepsObjects l m} {R = λ o n. KeepsObjects l m o n × Reads key from len (Some piece) n} {Q = λ f. Reads key from len (Some piece) f} (λ o n q p. (p, q)) h k)
 
-pub gets_absent : (a b : Option Files) (key : List ℕ) (from len : ℕ) (l m : Files → Type 0) → is_object key ≡ true → Where a b (KeepsObjects l m) → IfSome b (λ f. Reads key from len None f)
-    → AfterLanding (state_in a) (state_in b) (Gets key from len (Err gets.Absent))
-gets_absent a b key from len l m is k h =
-    works a b (Gets key from len (Err gets.Absent)) {P = λ o n. KeepsObjects l m o n × Reads key from len None n}
+pub gets_absent : (a b : Option Files) (fa fb : Files) (key : List ℕ) (from len : ℕ) (l m : Files → Type 0) → is_object key ≡ true → Where a b (KeepsObjects l m) → IfSome b (λ f. Reads key from len None f)
+    → AfterLanding (state_in a false fa) (state_in b false fb) (Gets key from len (Err gets.Absent))
+gets_absent a b fa fb key from len l m is k h =
+    works a b fa fb (Gets key from len (Err gets.Absent)) {P = λ o n. KeepsObjects l m o n × Reads key from len None n}
     (λ o n p. (state_kept l m o n p.0, get_here o key is ∙ sym (p.0.same key is) ∙ p.1))
     (where_beside a b {P = KeepsObjects l m} {R = λ o n. KeepsObjects l m o n × Reads key from len None n} {Q = λ f. Reads key from len None f} (λ o n q p. (p, q)) h k)
 
-pub gets_failed : (a b : Option Files) (key : List ℕ) (from len : ℕ) (l m : Files → Type 0) → Where a b (KeepsObjects l m) → AfterLanding (state_in a) (state_in b) (Gets key from len (Err gets.Failed))
-gets_failed a b key from len l m k = works a b (Gets key from len (Err gets.Failed)) {P = KeepsObjects l m} (λ o n p. (state_kept l m o n p, tt)) k
+pub gets_failed : (a b : Option Files) (fa fb : Files) (key : List ℕ) (from len : ℕ) (l m : Files → Type 0) → Where a b (KeepsObjects l m) → AfterLanding (state_in a false fa) (state_in b false fb) (Gets key from len (Err gets.Failed))
+gets_failed a b fa fb key from len l m k = works a b fa fb (Gets key from len (Err gets.Failed)) {P = KeepsObjects l m} (λ o n p. (state_kept l m o n p, tt)) k
 
-pub gets_refused : (a b : Option Files) (key : List ℕ) (from len : ℕ) (e : AllocError) (l m : Files → Type 0) → Where a b (KeepsObjects l m) → AfterLanding (state_in a) (state_in b) (Gets key from len (Err (gets.Memory e)))
-gets_refused a b key from len e l m k = works a b (Gets key from len (Err (gets.Memory e))) {P = KeepsObjects l m} (λ o n p. (state_kept l m o n p, tt)) k
+pub gets_refused : (a b : Option Files) (fa fb : Files) (key : List ℕ) (from len : ℕ) (e : AllocError) (l m : Files → Type 0) → Where a b (KeepsObjects l m) → AfterLanding (state_in a false fa) (state_in b false fb) (Gets key from len (Err (gets.Memory e)))
+gets_refused a b fa fb key from len e l m k = works a b fa fb (Gets key from len (Err (gets.Memory e))) {P = KeepsObjects l m} (λ o n p. (state_kept l m o n p, tt)) k
 
-pub gets_answer : (a b : Option Files) (key : List ℕ) (from len : ℕ) (r : Result (Option Piece) DiskError) (l m : Files → Type 0) → is_object key ≡ true → Where a b (KeepsObjects l m)
-    → IfOk r (λ found. IfSome b (λ f. Reads key from len found f)) → AfterLanding (state_in a) (state_in b) (Gets key from len (get_answer r))
-gets_answer a b key from len (Ok (Some piece)) l m is h k = gets_found a b key from len piece l m is h k
-gets_answer a b key from len (Ok None) l m is h k = gets_absent a b key from len l m is h k
-gets_answer a b key from len (Err (reads.Memory e)) l m is h k = gets_refused a b key from len e l m h
-gets_answer a b key from len (Err (reads.Failed t)) l m is h k = gets_failed a b key from len l m h
+pub gets_answer : (a b : Option Files) (fa fb : Files) (key : List ℕ) (from len : ℕ) (r : Result (Option Piece) DiskError) (l m : Files → Type 0) → is_object key ≡ true → Where a b (KeepsObjects l m)
+    → IfOk r (λ found. IfSome b (λ f. Reads key from len found f)) → AfterLanding (state_in a false fa) (state_in b false fb) (Gets key from len (get_answer r))
+gets_answer a b fa fb key from len (Ok (Some piece)) l m is h k = gets_found a b fa fb key from len piece l m is h k
+gets_answer a b fa fb key from len (Ok None) l m is h k = gets_absent a b fa fb key from len l m is h k
+gets_answer a b fa fb key from len (Err (reads.Memory e)) l m is h k = gets_refused a b fa fb key from len e l m h
+gets_answer a b fa fb key from len (Err (reads.Failed t)) l m is h k = gets_failed a b fa fb key from len l m h
 
 pub piece_bound : (len : ℕ) (r : Result (Option Piece) DiskError) → IfOk r (λ found. IfSome found (λ piece. length piece.bytes ≤ len)) → IfOk (get_answer r) (λ piece. length piece.bytes ≤ len)
 piece_bound len (Ok (Some piece)) h = h
@@ -138,15 +195,15 @@ piece_bound len (Err (reads.Failed t)) h = tt
 same_list : (prefix : List ℕ) (after : Option (List ℕ)) (l m : Files → Type 0) (o n : Files) → KeepsObjects l m o n → listed prefix after (objects_of n) ≡ listed prefix after (objects_of o)
 same_list prefix after l m o n k = ap (λ (s : State). listed prefix after s.objects) (state_kept l m o n k)
 
-pub lists : (a b : Option Files) (prefix : List ℕ) (after : Option (List ℕ)) (max : ℕ) (keys : List (List ℕ)) (l m : Files → Type 0) → Where a b (KeepsObjects l m)
-    → IfSome b (λ f. keys ≡ take max (listed prefix after (objects_of f))) → AfterLanding (state_in a) (state_in b) (Lists prefix after max (Ok keys))
-lists a b prefix after max keys l m k h =
-    works a b (Lists prefix after max (Ok keys)) {P = λ o n. KeepsObjects l m o n × (keys ≡ take max (listed prefix after (objects_of n)))}
+pub lists : (a b : Option Files) (fa fb : Files) (prefix : List ℕ) (after : Option (List ℕ)) (max : ℕ) (keys : List (List ℕ)) (l m : Files → Type 0) → Where a b (KeepsObjects l m)
+    → IfSome b (λ f. keys ≡ take max (listed prefix after (objects_of f))) → AfterLanding (state_in a false fa) (state_in b false fb) (Lists prefix after max (Ok keys))
+lists a b fa fb prefix after max keys l m k h =
+    works a b fa fb (Lists prefix after max (Ok keys)) {P = λ o n. KeepsObjects l m o n × (keys ≡ take max (listed prefix after (objects_of n)))}
     (λ o n p. (state_kept l m o n p.0, p.1 ∙ ap (take max) (same_list prefix after l m o n p.0)))
     (where_beside a b {P = KeepsObjects l m} {R = λ o n. KeepsObjects l m o n × (keys ≡ take max (listed prefix after (objects_of n)))} {Q = λ f. keys ≡ take max (listed prefix after (objects_of f))} (λ o n q p. (p, q)) h k)
 
-pub unlisted : (a b : Option Files) (prefix : List ℕ) (after : Option (List ℕ)) (max : ℕ) (e : ListError) (l m : Files → Type 0) → Where a b (KeepsObjects l m) → AfterLanding (state_in a) (state_in b) (Lists prefix after max (Err e))
-unlisted a b prefix after max e l m k = works a b (Lists prefix after max (Err e)) {P = KeepsObjects l m} (λ o n p. state_kept l m o n p) k
+pub unlisted : (a b : Option Files) (fa fb : Files) (prefix : List ℕ) (after : Option (List ℕ)) (max : ℕ) (e : ListError) (l m : Files → Type 0) → Where a b (KeepsObjects l m) → AfterLanding (state_in a false fa) (state_in b false fb) (Lists prefix after max (Err e))
+unlisted a b fa fb prefix after max e l m k = works a b fa fb (Lists prefix after max (Err e)) {P = KeepsObjects l m} (λ o n p. state_kept l m o n p) k
 
 -- ---- the names that are kept between pages
 

@@ -1,5 +1,6 @@
 pub mod Maps
 pub mod Meetings
+pub mod Dying
 pub mod Steps
 pub mod Wheres
 pub mod Fronts
@@ -11,3 +12,6 @@ pub mod Entries
 pub mod Calls
 pub mod Ordered
 pub mod Parts
+pub mod Lines
+pub mod Pieces
+pub mod Logs

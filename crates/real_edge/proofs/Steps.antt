@@ -1,6 +1,6 @@
 -- What the calls of a disk do to the objects, and to those that no crash takes.
 use Rattle.std.proofs.Common.{◌≡◌, ◌≢◌, ◌⊎◌, ℕ, Bool, true, false, cond, List, [], ◌∷◌, Option, Some, None, Result, Ok, Err, refl, sym, ap, subst, ◌∙◌, inl, inr}
-use Rattle.std.specs.Prelude.{IsSome, IfSome, OnOk}
+use Rattle.std.specs.Prelude.{IsSome, IfSome, IfOk, OnOk, is_err}
 use Rattle.std.specs.declared.alloc.AllocError.{AllocError}
 use Rattle.std.specs.Ordering.{nat_cmp, eq_by_cmp, is_eq}
 use Rattle.object_store.proofs.Entries.{ties_itself, not_tied}
@@ -16,9 +16,9 @@ use Rattle.real_edge.specs.declared.disk.MakeError.TheVariants as makes
 use Rattle.real_edge.specs.declared.disk.Standing.TheVariants as standings
 use Rattle.real_edge.specs.Disk.{Files, Where, Leaves, Looks, SameBut, NoMore, Turns, MayTurn, MayStir, IsSettled, IsSafe, HalfMade, Makes, Links, LinksTo, LinkFails, Removes}
 use Rattle.real_edge.specs.Names.{is_object}
-use Rattle.real_edge.specs.Objects.{objects_of, state_of, create_answer, delete_answer, both_of, ShowsNoMore, KeepsObjects, KeepsSafe, Made, Places, IsTaken, Takes}
+use Rattle.real_edge.specs.Objects.{objects_of, state_of, create_answer, delete_answer, both_of, made_of, taken_of, IsSure, IsSeenAt, Showing, ShowsTurn, Comes, Goes, StaysSure, ShowsNoMore, KeepsObjects, KeepsSafe, Made, Places, IsTaken, Takes}
 use Rattle.real_edge.proofs.Maps.{get_here, same_objects, objects-insert, objects-remove, cases_same, apart}
-use Rattle.real_edge.proofs.Wheres.{shows-more, shows-then, keeps-then, keeps_left, where_map, where_then, where_with, where_beside}
+use Rattle.real_edge.proofs.Wheres.{shows-more, shows-then, keeps-then, keeps_left, where_map, where_then, where_with, where_beside, if_ok_some, if_map, if_both}
 
 -- ---- what a crash may leave
 
@@ -103,6 +103,52 @@ removed name r before after o n not h = by r h
       | inr e ↦ record { same = λ q is. ap (λ (f : Files). finmap.get f q) e; left = shows-turn name None before after not k.1 }
     ]
 
+-- ---- what a crash leaves is what is seen
+
+none_true : false ≡ true → ⊥
+none_true e = cc
+
+none_false : true ≡ false → ⊥
+none_false e = cc
+
+pub sure_kept : (before after : Files → Type 0) (o n : Files) → KeepsObjects before after o n → IsSure before o → IsSure after n
+sure_kept before after o n k s c left q is = let d = k.left c left in d.2 q is ∙ s d.0 d.1 q is ∙ sym (k.same q is)
+
+pub turns_less : (name : List ℕ) (Turned : Option (List ℕ) → Type 0) (before mid after : Files → Type 0) → NoMore mid after → ShowsTurn name Turned before mid → ShowsTurn name Turned before after
+turns_less name Turned before mid after more h c left = h c (more c left)
+
+pub turns_kept : (name : List ℕ) (Turned : Option (List ℕ) → Type 0) (before after : Files → Type 0) → ShowsNoMore before after → ShowsTurn name Turned before after
+turns_kept name Turned before after h c left = let d = h c left in (d.0, d.1, record { others = λ q isq ne. d.2 q isq; here = λ is. inl (d.2 name is) })
+
+-- behind what changes no object
+pub turns_behind : (name : List ℕ) (Turned Now : Option (List ℕ) → Type 0) (before mid after : Files → Type 0) → ((x : Option (List ℕ)) → is_object name ≡ true → Now x → Turned x) → ShowsNoMore before mid → ShowsTurn name Now mid after → ShowsTurn name Turned before after
+turns_behind name Turned Now before mid after so k h c left =
+    let y = h c left in
+    let x = k y.0 y.1 in
+    (x.0, x.1, record {
+      others = λ q isq ne. y.2.others q isq ne ∙ x.2 q isq;
+      here = λ is. elim (y.2.here is) [ inl e ↦ inl (e ∙ x.2 name is) | inr t ↦ inr (so (finmap.get c name) is t) ];
+    })
+
+-- before it
+pub turns_still : (name : List ℕ) (Turned : Option (List ℕ) → Type 0) (before mid after : Files → Type 0) → ShowsTurn name Turned before mid → ShowsNoMore mid after → ShowsTurn name Turned before after
+turns_still name Turned before mid after h k c left =
+    let x = k c left in
+    let y = h x.0 x.1 in
+    (y.0, y.1, record {
+      others = λ q isq ne. x.2 q isq ∙ y.2.others q isq ne;
+      here = λ is. elim (y.2.here is) [ inl e ↦ inl (x.2 name is ∙ e) | inr t ↦ inr (subst Turned (sym (x.2 name is)) t) ];
+    })
+
+-- what stands under a name was put on the disk
+pub sure_at : (name : List ℕ) (Turned : Option (List ℕ) → Type 0) (before mid after : Files → Type 0) (o n : Files) → ShowsTurn name Turned before mid → ((q : List ℕ) → is_object q ≡ true → q ≢ name → finmap.get n q ≡ finmap.get o q)
+    → IsSeenAt name after n → NoMore mid after → IsSure before o → IsSure after n
+sure_at name Turned before mid after o n turns others seen more s c left q isq = by (cases_same q name)
+  where
+    by : (q ≡ name) ⊎ (q ≢ name) → finmap.get c q ≡ finmap.get n q
+    by (inl e) = ap (finmap.get c) e ∙ seen c left ∙ sym (ap (finmap.get n) e)
+    by (inr ne) = let d = turns c (more c left) in d.2.others q isq ne ∙ s d.0 d.1 q isq ∙ sym (others q isq ne)
+
 -- ---- the link
 
 -- the object stands, or not, and its name is not on the disk yet
@@ -111,6 +157,7 @@ pub record Linked (name content : List ℕ) (result : Result (Unit {0}) MakeErro
   pub others : (q : List ℕ) → is_object q ≡ true → q ≢ name → finmap.get new q ≡ finmap.get old q
   pub has : OnOk result (finmap.get new name ≡ Some content)
   pub keeps : KeepsSafe before after
+  pub turns : ShowsTurn name (Comes name content old) before after
 
 module _ (beside name content : List ℕ) (before mid after : Files → Type 0) (o m n : Files) (is : is_object name ≡ true) (may : before o) (h : Made beside content before mid o m) where
   was : state_of m ≡ state_of o
@@ -140,6 +187,18 @@ module _ (beside name content : List ℕ) (before mid after : Files → Type 0) 
   keeps_turn : finmap.get m name ≡ None → MayTurn name (Some content) mid after → KeepsSafe before after
   keeps_turn none turn = keeps_new name (Some content) before mid after o may (sym (h.keeps.same name is) ∙ none) h.keeps.left turn
 
+  turns_more : NoMore mid after → ShowsTurn name (Comes name content o) before after
+  turns_more more = turns_kept name (Comes name content o) before after (shows-then before mid after h.keeps.left (shows-more mid after more))
+
+  turns_came : finmap.get m name ≡ None → MayTurn name (Some content) mid after → ShowsTurn name (Comes name content o) before after
+  turns_came none turn c left =
+      let d = turn c left in
+      let x = h.keeps.left d.0 d.1 in
+      (x.0, x.1, record {
+        others = λ q isq ne. d.2.others q ne ∙ x.2 q isq;
+        here = λ i. elim d.2.here [ inl same ↦ inl (same ∙ x.2 name is) | inr new ↦ inr (sym (h.keeps.same name is) ∙ none, new) ];
+      })
+
   pub linked : (r : Result (Unit {0}) MakeError) → Links beside name r mid after m n → Linked name content r before after o n
   linked (Ok done) l =
       let t : LinksTo name (Some content) mid after m n = subst (λ (x : Option (List ℕ)). LinksTo name x mid after m n) h.has l in
@@ -148,17 +207,18 @@ module _ (beside name content : List ℕ) (before mid after : Files → Type 0) 
         others = others_came t.1;
         has = ap (λ (f : Files). finmap.get f name) t.1 ∙ get_new m name content;
         keeps = keeps_turn t.0 t.2;
+        turns = turns_came t.0 t.2;
       }
-  linked (Err makes.Exists) l = record { creates = (stands l.0, nothing l.1); others = others_same l.1; has = tt; keeps = keeps_more l.2 }
+  linked (Err makes.Exists) l = record { creates = (stands l.0, nothing l.1); others = others_same l.1; has = tt; keeps = keeps_more l.2; turns = turns_more l.2 }
   linked (Err (makes.Failed x)) l = by (subst (λ (y : Option (List ℕ)). LinkFails name y mid after m n) h.has l)
     where
       by : LinkFails name (Some content) mid after m n → Linked name content (Err (makes.Failed x)) before after o n
       by (inl t) = elim t.1 [
-        | inl e ↦ record { creates = inl (absent t.0, came e); others = others_came e; has = tt; keeps = keeps_turn t.0 t.2 }
-        | inr e ↦ record { creates = inr (inr (nothing e)); others = others_same e; has = tt; keeps = keeps_turn t.0 t.2 }
+        | inl e ↦ record { creates = inl (absent t.0, came e); others = others_came e; has = tt; keeps = keeps_turn t.0 t.2; turns = turns_came t.0 t.2 }
+        | inr e ↦ record { creates = inr (inr (nothing e)); others = others_same e; has = tt; keeps = keeps_turn t.0 t.2; turns = turns_came t.0 t.2 }
       ]
-      by (inr t) = record { creates = inr (inr (nothing t.0)); others = others_same t.0; has = tt; keeps = keeps_more t.1 }
-  linked (Err (makes.Memory e)) l = record { creates = nothing l.0; others = others_same l.0; has = tt; keeps = keeps_more l.1 }
+      by (inr t) = record { creates = inr (inr (nothing t.0)); others = others_same t.0; has = tt; keeps = keeps_more t.1; turns = turns_more t.1 }
+  linked (Err (makes.Memory e)) l = record { creates = nothing l.0; others = others_same l.0; has = tt; keeps = keeps_more l.1; turns = turns_more l.1 }
 
 -- ---- the name beside goes
 
@@ -169,6 +229,7 @@ linked_still name content r before mid after o m n is h k = record {
   others = λ q isq ne. k.same q isq ∙ h.others q isq ne;
   has = has_still r h.has;
   keeps = safe_then before mid after h.keeps (safe_shown mid after k.left);
+  turns = turns_still name (Comes name content o) before mid after h.turns k.left;
 }
   where
     has_still : (x : Result (Unit {0}) MakeError) → OnOk x (finmap.get m name ≡ Some content) → OnOk x (finmap.get n name ≡ Some content)
@@ -177,56 +238,100 @@ linked_still name content r before mid after o m n is h k = record {
 
 pub linked_both : (name content : List ℕ) (r : Result (Unit {0}) MakeError) (rr : Result (Unit {0}) Trouble) (before after : Files → Type 0) (o n : Files) → Linked name content r before after o n → Linked name content (both_of r rr) before after o n
 linked_both name content (Ok done) (Ok gone) before after o n h = h
-linked_both name content (Ok done) (Err t) before after o n h = record { creates = inl h.creates; others = h.others; has = tt; keeps = h.keeps }
+linked_both name content (Ok done) (Err t) before after o n h = record { creates = inl h.creates; others = h.others; has = tt; keeps = h.keeps; turns = h.turns }
 linked_both name content (Err makes.Exists) (Ok gone) before after o n h = h
-linked_both name content (Err makes.Exists) (Err t) before after o n h = record { creates = inr (inr h.creates.1); others = h.others; has = tt; keeps = h.keeps }
+linked_both name content (Err makes.Exists) (Err t) before after o n h = record { creates = inr (inr h.creates.1); others = h.others; has = tt; keeps = h.keeps; turns = h.turns }
 linked_both name content (Err (makes.Failed x)) rr before after o n h = h
 linked_both name content (Err (makes.Memory e)) rr before after o n h = h
 
 -- ---- the end of a create
 
-pub ended : (name content : List ℕ) (e : MakeError) (before after : Files → Type 0) (o n : Files) → Linked name content (Err e) before after o n → Places name content (Err e) before after o n
-ended name content e before after o n h = record { creates = h.creates; others = h.others; on_disk = tt; keeps = h.keeps }
-
-pub synced : (name content : List ℕ) (way : List ℕ → Type 0) (before mid after : Files → Type 0) (o n : Files) → way name → IsSettled name way n after → NoMore mid after → Linked name content (Ok tt) before mid o n → Places name content (Ok tt) before after o n
-synced name content way before mid after o n on s more h = record {
+-- the folder was put on the disk
+synced : (name content : List ℕ) (r : Result (Unit {0}) MakeError) (way : List ℕ → Type 0) (before mid after : Files → Type 0) (o n : Files) → way name → IsSettled name way n after → NoMore mid after → Linked name content r before mid o n
+    → Places name content r false before after o n
+synced name content r way before mid after o n on s more h = record {
   creates = h.creates;
   others = h.others;
-  on_disk = λ c left. s.seen on c left name refl ∙ h.has;
+  on_disk = on_disk_by r h.has;
   keeps = safe_then before mid after h.keeps (safe_more mid after more);
+  turns = turns_less name (Comes name content o) before mid after more h.turns;
+  sure = λ kept w. sure_at name (Comes name content o) before mid after o n h.turns h.others (λ c left. s.seen on c left name refl) more w;
+  fails = λ e. absurd (none_true e);
+}
+  where
+    on_disk_by : (x : Result (Unit {0}) MakeError) → OnOk x (finmap.get n name ≡ Some content) → OnOk x (IsSafe after name content)
+    on_disk_by (Ok done) e = λ c left. s.seen on c left name refl ∙ e
+    on_disk_by (Err x) e = tt
+
+-- or it was not
+unsynced : (name content : List ℕ) (t : Trouble) (before mid after : Files → Type 0) (o n : Files) → NoMore mid after → Creates name content (Err creates.Failed) (state_of o) (state_of n)
+    → ((q : List ℕ) → is_object q ≡ true → q ≢ name → finmap.get n q ≡ finmap.get o q) → KeepsSafe before mid → ShowsTurn name (Comes name content o) before mid → Places name content (Err (makes.Failed t)) true before after o n
+unsynced name content t before mid after o n more did others keeps turns = record {
+  creates = did;
+  others = others;
+  on_disk = tt;
+  keeps = safe_then before mid after keeps (safe_more mid after more);
+  turns = turns_less name (Comes name content o) before mid after more turns;
+  sure = λ kept. absurd (none_false kept);
+  fails = λ e. (t, refl);
 }
 
-pub unsynced : (name content : List ℕ) (t : Trouble) (before mid after : Files → Type 0) (o n : Files) → NoMore mid after → Linked name content (Ok tt) before mid o n → Places name content (Err (makes.Failed t)) before after o n
-unsynced name content t before mid after o n more h = record {
-  creates = inl h.creates;
-  others = h.others;
-  on_disk = tt;
-  keeps = safe_then before mid after h.keeps (safe_more mid after more);
-}
+pub ended : (name content : List ℕ) (r : Result (Unit {0}) MakeError) (rr : Result (Unit {0}) Trouble) (way : List ℕ → Type 0) (before mid after : Files → Type 0) (o n : Files) → way name → IfOk rr (λ _. IsSettled name way n after) → NoMore mid after
+    → Linked name content r before mid o n → Places name content (made_of r rr) (is_err rr) before after o n
+ended name content (Ok done) (Ok s) way before mid after o n on settled more h = synced name content (Ok done) way before mid after o n on settled more h
+ended name content (Ok done) (Err t) way before mid after o n on settled more h = unsynced name content t before mid after o n more (inl h.creates) h.others h.keeps h.turns
+ended name content (Err makes.Exists) (Ok s) way before mid after o n on settled more h = synced name content (Err makes.Exists) way before mid after o n on settled more h
+ended name content (Err makes.Exists) (Err t) way before mid after o n on settled more h = unsynced name content t before mid after o n more (inr (inr h.creates.1)) h.others h.keeps h.turns
+ended name content (Err (makes.Failed x)) (Ok s) way before mid after o n on settled more h = synced name content (Err (makes.Failed x)) way before mid after o n on settled more h
+ended name content (Err (makes.Failed x)) (Err t) way before mid after o n on settled more h = unsynced name content x before mid after o n more h.creates h.others h.keeps h.turns
+ended name content (Err (makes.Memory e)) (Ok s) way before mid after o n on settled more h = synced name content (Err (makes.Memory e)) way before mid after o n on settled more h
+ended name content (Err (makes.Memory e)) (Err t) way before mid after o n on settled more h = unsynced name content t before mid after o n more (inr (inr h.creates)) h.others h.keeps h.turns
 
 -- ---- creates that made nothing
 
-pub failed : (name content : List ℕ) (t : Trouble) (before after : Files → Type 0) (o n : Files) → KeepsObjects before after o n → Places name content (Err (makes.Failed t)) before after o n
-failed name content t before after o n h = record { creates = inr (inr (state_kept before after o n h)); others = λ q is ne. h.same q is; on_disk = tt; keeps = safe_shown before after h.left }
+pub failed : (name content : List ℕ) (t : Trouble) (before after : Files → Type 0) (o n : Files) → KeepsObjects before after o n → Places name content (Err (makes.Failed t)) false before after o n
+failed name content t before after o n h = record {
+  creates = inr (inr (state_kept before after o n h));
+  others = λ q is ne. h.same q is;
+  on_disk = tt;
+  keeps = safe_shown before after h.left;
+  turns = turns_kept name (Comes name content o) before after h.left;
+  sure = λ kept s. sure_kept before after o n h s;
+  fails = λ e. absurd (none_true e);
+}
 
-pub refused : (name content : List ℕ) (e : AllocError) (before after : Files → Type 0) (o n : Files) → KeepsObjects before after o n → Places name content (Err (makes.Memory e)) before after o n
-refused name content e before after o n h = record { creates = state_kept before after o n h; others = λ q is ne. h.same q is; on_disk = tt; keeps = safe_shown before after h.left }
+pub refused : (name content : List ℕ) (e : AllocError) (before after : Files → Type 0) (o n : Files) → KeepsObjects before after o n → Places name content (Err (makes.Memory e)) false before after o n
+refused name content e before after o n h = record {
+  creates = state_kept before after o n h;
+  others = λ q is ne. h.same q is;
+  on_disk = tt;
+  keeps = safe_shown before after h.left;
+  turns = turns_kept name (Comes name content o) before after h.left;
+  sure = λ kept s. sure_kept before after o n h s;
+  fails = λ e. absurd (none_true e);
+}
 
-pub stood : (name content : List ℕ) (before after : Files → Type 0) (f : Files) → is_object name ≡ true → IsSome (finmap.get f name) → NoMore before after → Places name content (Err makes.Exists) before after f f
+pub stood : (name content : List ℕ) (before after : Files → Type 0) (f : Files) → is_object name ≡ true → IsSome (finmap.get f name) → NoMore before after → Places name content (Err makes.Exists) false before after f f
 stood name content before after f is some more = record {
   creates = (subst (λ (x : Option (List ℕ)). IsSome x) (sym (get_here f name is)) some, refl);
   others = λ q isq ne. refl;
   on_disk = tt;
   keeps = safe_more before after more;
+  turns = turns_kept name (Comes name content f) before after (shows-more before after more);
+  sure = λ kept s. sure_kept before after f f (keeps_left before after f more) s;
+  fails = λ e. absurd (none_true e);
 }
 
 -- a create behind what changes no object
-pub places_behind : (name content : List ℕ) (r : Result (Unit {0}) MakeError) (before mid after : Files → Type 0) (o m n : Files) → KeepsObjects before mid o m → Places name content r mid after m n → Places name content r before after o n
-places_behind name content r before mid after o m n k h = record {
+pub places_behind : (name content : List ℕ) (r : Result (Unit {0}) MakeError) (is_lost : Bool) (before mid after : Files → Type 0) (o m n : Files) → KeepsObjects before mid o m → Places name content r is_lost mid after m n → Places name content r is_lost before after o n
+places_behind name content r is_lost before mid after o m n k h = record {
   creates = subst (λ (s : State). Creates name content (create_answer r) s (state_of n)) (state_kept before mid o m k) h.creates;
   others = λ q is ne. h.others q is ne ∙ k.same q is;
   on_disk = h.on_disk;
   keeps = safe_then before mid after (safe_shown before mid k.left) h.keeps;
+  turns = turns_behind name (Comes name content o) (Comes name content m) before mid after (λ x is came. (sym (k.same name is) ∙ came.0, came.1)) k.left h.turns;
+  sure = λ kept s. h.sure kept (sure_kept before mid o m k s);
+  fails = h.fails;
 }
 
 -- ---- removing
@@ -237,34 +342,83 @@ took_state name o n e = ap state_of e ∙ (λ i. record { objects = objects-remo
 others_took : (name : List ℕ) (o n : Files) → n ≡ finmap.remove o name → (q : List ℕ) → is_object q ≡ true → q ≢ name → finmap.get n q ≡ finmap.get o q
 others_took name o n e q is ne = ap (λ (f : Files). finmap.get f q) e ∙ get_left o name q ne
 
-pub untaken : (name : List ℕ) (t : Trouble) (before after : Files → Type 0) (f : Files) → NoMore before after → Takes name (Err t) before after f f
-untaken name t before after f more = record {
-  deletes = inr refl;
-  others = λ q is ne. refl;
-  taken = record { gone = tt; keeps = λ q content is ne safe. safe_more before after more q content is safe };
+turn_goes : (name : List ℕ) (before mid after : Files → Type 0) → MayTurn name None before mid → NoMore mid after → ShowsTurn name Goes before after
+turn_goes name before mid after h more c left = let d = h c (more c left) in (d.0, d.1, record { others = λ q isq ne. d.2.others q ne; here = λ is. d.2.here })
+
+none_left : (name : List ℕ) (o n : Files) → n ≡ finmap.remove o name → finmap.get n name ≡ None
+none_left name o n e = ap (λ (f : Files). finmap.get f name) e ∙ gone o name
+
+-- a name that is gone, whose folder was put on the disk
+pub seen_gone : (name : List ℕ) (way : List ℕ → Type 0) (after : Files → Type 0) (n : Files) → finmap.get n name ≡ None → IsSettled name way n after → IsSeenAt name after n
+seen_gone name way after n none s c left = elim (s.no_other c left name refl) [ inl e ↦ e | inr e ↦ e ∙ sym none ]
+
+module _ (name : List ℕ) (before mid after : Files → Type 0) (o n : Files) (more : NoMore mid after) where
+  keeps_others : MayTurn name None before mid → (q content : List ℕ) → is_object q ≡ true → q ≢ name → IsSafe before q content → IsSafe after q content
+  keeps_others turn q content is ne safe = safe_more mid after more q content is (safe_turn name None before mid q content ne turn safe)
+
+  took_synced : n ≡ finmap.remove o name → MayTurn name None before mid → IsSeenAt name after n → Takes name (Ok tt) false before after o n
+  took_synced e turn seen = record {
+    deletes = took_state name o n e;
+    others = others_took name o n e;
+    taken = record { gone = λ c left. seen c left ∙ none_left name o n e; keeps = keeps_others turn };
+    turns = turn_goes name before mid after turn more;
+    sure = λ kept s. sure_at name Goes before after after o n (turn_goes name before mid after turn more) (others_took name o n e) seen (λ c left. left) s;
+    fails = λ e. absurd (none_true e);
+  }
+
+  half_synced : (t : Trouble) → Deletes name (Err record {}) (state_of o) (state_of n) → ((q : List ℕ) → is_object q ≡ true → q ≢ name → finmap.get n q ≡ finmap.get o q) → MayTurn name None before mid → IsSeenAt name after n → Takes name (Err t) false before after o n
+  half_synced t did others turn seen = record {
+    deletes = did;
+    others = others;
+    taken = record { gone = tt; keeps = keeps_others turn };
+    turns = turn_goes name before mid after turn more;
+    sure = λ kept s. sure_at name Goes before after after o n (turn_goes name before mid after turn more) others seen (λ c left. left) s;
+    fails = λ e. absurd (none_true e);
+  }
+
+  took_unsynced : (t : Trouble) → Deletes name (Err record {}) (state_of o) (state_of n) → ((q : List ℕ) → is_object q ≡ true → q ≢ name → finmap.get n q ≡ finmap.get o q) → MayTurn name None before mid → Takes name (Err t) true before after o n
+  took_unsynced t did others turn = record {
+    deletes = did;
+    others = others;
+    taken = record { gone = tt; keeps = keeps_others turn };
+    turns = turn_goes name before mid after turn more;
+    sure = λ kept. absurd (none_false kept);
+    fails = λ e. (t, refl);
+  }
+
+  half_did : (n ≡ finmap.remove o name) ⊎ (n ≡ o) → Deletes name (Err record {}) (state_of o) (state_of n)
+  half_did (inl e) = inl (took_state name o n e)
+  half_did (inr e) = inr (ap state_of e)
+
+  half_others : (n ≡ finmap.remove o name) ⊎ (n ≡ o) → (q : List ℕ) → is_object q ≡ true → q ≢ name → finmap.get n q ≡ finmap.get o q
+  half_others (inl e) = others_took name o n e
+  half_others (inr e) = λ q is ne. ap (λ (f : Files). finmap.get f q) e
+
+  pub taken : (r rr : Result (Unit {0}) Trouble) → Removes name r before mid o n → IfOk rr (λ _. IsSeenAt name after n) → Takes name (taken_of r rr) (is_err rr) before after o n
+  taken (Ok done) (Ok s) h seen = took_synced h.0 h.1 seen
+  taken (Ok done) (Err t) h seen = took_unsynced t (inl (took_state name o n h.0)) (others_took name o n h.0) h.1
+  taken (Err t) (Ok s) h seen = half_synced t (half_did h.0) (half_others h.0) h.1 seen
+  taken (Err t) (Err u) h seen = took_unsynced t (half_did h.0) (half_others h.0) h.1
+
+pub untaken : (name : List ℕ) (t : Trouble) (before after : Files → Type 0) (o n : Files) → KeepsObjects before after o n → Takes name (Err t) false before after o n
+untaken name t before after o n k = record {
+  deletes = inr (state_kept before after o n k);
+  others = λ q is ne. k.same q is;
+  taken = record { gone = tt; keeps = λ q content is ne safe. safe_shown before after k.left q content is safe };
+  turns = turns_kept name Goes before after k.left;
+  sure = λ kept s. sure_kept before after o n k s;
+  fails = λ e. absurd (none_true e);
 }
 
-pub half_taken : (name : List ℕ) (t : Trouble) (before after : Files → Type 0) (o n : Files) → Removes name (Err t) before after o n → Takes name (Err t) before after o n
-half_taken name t before after o n h = elim h.0 [
-  | inl e ↦ record { deletes = inl (took_state name o n e); others = others_took name o n e; taken = record { gone = tt; keeps = λ q content is ne safe. safe_turn name None before after q content ne h.1 safe } }
-  | inr e ↦ record { deletes = inr (ap state_of e); others = λ q is ne. ap (λ (f : Files). finmap.get f q) e; taken = record { gone = tt; keeps = λ q content is ne safe. safe_turn name None before after q content ne h.1 safe } }
-]
-
-pub taken_unsynced : (name : List ℕ) (t : Trouble) (before mid after : Files → Type 0) (o n : Files) → NoMore mid after → Removes name (Ok tt) before mid o n → Takes name (Err t) before after o n
-taken_unsynced name t before mid after o n more h = record {
-  deletes = inl (took_state name o n h.0);
-  others = others_took name o n h.0;
-  taken = record { gone = tt; keeps = λ q content is ne safe. safe_more mid after more q content is (safe_turn name None before mid q content ne h.1 safe) };
-}
-
-pub taken_synced : (name : List ℕ) (way : List ℕ → Type 0) (before mid after : Files → Type 0) (o n : Files) → IsSettled name way n after → NoMore mid after → Removes name (Ok tt) before mid o n → Takes name (Ok tt) before after o n
-taken_synced name way before mid after o n s more h = record {
-  deletes = took_state name o n h.0;
-  others = others_took name o n h.0;
-  taken = record {
-    gone = λ c left. elim (s.no_other c left name refl) [ inl e ↦ e ∙ ap (λ (f : Files). finmap.get f name) h.0 ∙ gone o name | inr e ↦ e ];
-    keeps = λ q content is ne safe. safe_more mid after more q content is (safe_turn name None before mid q content ne h.1 safe);
-  };
+-- a removal behind what changes no object
+pub takes_behind : (name : List ℕ) (r : Result (Unit {0}) Trouble) (is_lost : Bool) (before mid after : Files → Type 0) (o m n : Files) → KeepsObjects before mid o m → Takes name r is_lost mid after m n → Takes name r is_lost before after o n
+takes_behind name r is_lost before mid after o m n k h = record {
+  deletes = subst (λ (s : State). Deletes name (delete_answer r) s (state_of n)) (state_kept before mid o m k) h.deletes;
+  others = λ q is ne. h.others q is ne ∙ k.same q is;
+  taken = record { gone = h.taken.gone; keeps = λ q content is ne safe. h.taken.keeps q content is ne (safe_shown before mid k.left q content is safe) };
+  turns = turns_behind name Goes Goes before mid after (λ x is goes. goes) k.left h.turns;
+  sure = λ kept s. h.sure kept (sure_kept before mid o m k s);
+  fails = h.fails;
 }
 
 -- ---- the calls in a row
@@ -280,25 +434,13 @@ where_both a b d e beside name content r rr l0 l1 l2 l3 is not may h k t =
     (λ o m n p q may_o. linked beside name content l0 l1 l2 o m n is may_o p r q) h k))
     t
 
--- the sync behind a link
-pub where_synced : (a e s : Option Files) (name content : List ℕ) (r : Result (Unit {0}) MakeError) (l m n : Files → Type 0) (way way' : List ℕ → Type 0)
-    → r ≡ Ok tt → way name → Where a e (Linked name content r l m) → Leaves e s m n way way' → IfSome e (λ f. IsSettled name way f n) → Where a s (Places name content (Ok tt) l n)
-where_synced a e s name content r l m n way way' is on h leaves settled =
-    subst (λ (x : Option Files). Where a x (Places name content (Ok tt) l n)) (sym leaves.same)
-    (where_beside a e {P = Linked name content r l m} {R = Places name content (Ok tt) l n} {Q = λ f. IsSettled name way f n}
-    (λ o x q p. synced name content way l m n o x on q leaves.left (subst (λ (y : Result (Unit {0}) MakeError). Linked name content y l m o x) is p)) settled h)
-
-pub where_unsynced : (a e s : Option Files) (name content : List ℕ) (t : Trouble) (r : Result (Unit {0}) MakeError) (l m n : Files → Type 0) (way way' : List ℕ → Type 0)
-    → r ≡ Ok tt → Where a e (Linked name content r l m) → Leaves e s m n way way' → Where a s (Places name content (Err (makes.Failed t)) l n)
-where_unsynced a e s name content t r l m n way way' is h leaves =
-    subst (λ (x : Option Files). Where a x (Places name content (Err (makes.Failed t)) l n)) (sym leaves.same)
-    (where_map a e {P = Linked name content r l m} {Q = Places name content (Err (makes.Failed t)) l n}
-    (λ o x p. unsynced name content t l m n o x leaves.left (subst (λ (y : Result (Unit {0}) MakeError). Linked name content y l m o x) is p)) h)
-
-pub where_ended : (a e : Option Files) (name content : List ℕ) (x : MakeError) (r : Result (Unit {0}) MakeError) (l m : Files → Type 0) → r ≡ Err x → Where a e (Linked name content r l m) → Where a e (Places name content (Err x) l m)
-where_ended a e name content x r l m is h =
-    where_map a e {P = Linked name content r l m} {Q = Places name content (Err x) l m}
-    (λ o n p. ended name content x l m o n (subst (λ (y : Result (Unit {0}) MakeError). Linked name content y l m o n) is p)) h
+-- the sync behind a link, whatever it answers
+pub where_ended : (a e s : Option Files) (name content : List ℕ) (r : Result (Unit {0}) MakeError) (rr : Result (Unit {0}) Trouble) (l m n : Files → Type 0) (way way' : List ℕ → Type 0)
+    → way name → Where a e (Linked name content r l m) → Leaves e s m n way way' → IfOk rr (λ _. IfSome e (λ f. IsSettled name way f n)) → Where a s (Places name content (made_of r rr) (is_err rr) l n)
+where_ended a e s name content r rr l m n way way' on h leaves settled =
+    subst (λ (x : Option Files). Where a x (Places name content (made_of r rr) (is_err rr) l n)) (sym leaves.same)
+    (where_beside a e {P = Linked name content r l m} {R = Places name content (made_of r rr) (is_err rr) l n} {Q = λ f. IfOk rr (λ _. IsSettled name way f n)}
+    (λ o x q p. ended name content r rr way l m n o x on q leaves.left p) (if_ok_some rr e (λ f. IsSettled name way f n) settled) h)
 
 -- a make of the file beside, behind what changed no object
 pub where_made : (a b c : Option Files) (name content : List ℕ) (l m n : Files → Type 0) → is_object name ≡ false → Where a b (KeepsObjects l m) → Where b c (Makes name content (Ok tt) m n) → Where a c (Made name content l n)
@@ -323,23 +465,63 @@ where_removed a b c name r l m n not k h =
 
 -- ---- a create behind other calls
 
-pub where_placed : (a b c : Option Files) (name content : List ℕ) (r : Result (Unit {0}) MakeError) (l m n : Files → Type 0) → Where a b (KeepsObjects l m) → Where b c (Places name content r m n) → Where a c (Places name content r l n)
-where_placed a b c name content r l m n k h =
-    where_then a b c {P = KeepsObjects l m} {Q = Places name content r m n} {R = Places name content r l n} (λ o x y p q. places_behind name content r l m n o x y p q) k h
+pub where_placed : (a b c : Option Files) (name content : List ℕ) (r : Result (Unit {0}) MakeError) (is_lost : Bool) (l m n : Files → Type 0) → Where a b (KeepsObjects l m) → Where b c (Places name content r is_lost m n) → Where a c (Places name content r is_lost l n)
+where_placed a b c name content r is_lost l m n k h =
+    where_then a b c {P = KeepsObjects l m} {Q = Places name content r is_lost m n} {R = Places name content r is_lost l n} (λ o x y p q. places_behind name content r is_lost l m n o x y p q) k h
 
-pub where_failed : (a b : Option Files) (name content : List ℕ) (t : Trouble) (l m : Files → Type 0) → Where a b (KeepsObjects l m) → Where a b (Places name content (Err (makes.Failed t)) l m)
-where_failed a b name content t l m k = where_map a b {P = KeepsObjects l m} {Q = Places name content (Err (makes.Failed t)) l m} (λ o n h. failed name content t l m o n h) k
+-- nothing was lost before, and nothing is
+pub where_failed : (a b : Option Files) (name content : List ℕ) (t : Trouble) (is_lost : Bool) (l m : Files → Type 0) → is_lost ≡ false → Where a b (KeepsObjects l m) → Where a b (Places name content (Err (makes.Failed t)) is_lost l m)
+where_failed a b name content t is_lost l m kept k =
+    subst (λ (x : Bool). Where a b (Places name content (Err (makes.Failed t)) x l m)) (sym kept) (where_map a b {P = KeepsObjects l m} {Q = Places name content (Err (makes.Failed t)) false l m} (λ o n h. failed name content t l m o n h) k)
 
-pub where_refused : (a b : Option Files) (name content : List ℕ) (e : AllocError) (l m : Files → Type 0) → Where a b (KeepsObjects l m) → Where a b (Places name content (Err (makes.Memory e)) l m)
-where_refused a b name content e l m k = where_map a b {P = KeepsObjects l m} {Q = Places name content (Err (makes.Memory e)) l m} (λ o n h. refused name content e l m o n h) k
+pub where_refused : (a b : Option Files) (name content : List ℕ) (e : AllocError) (is_lost : Bool) (l m : Files → Type 0) → is_lost ≡ false → Where a b (KeepsObjects l m) → Where a b (Places name content (Err (makes.Memory e)) is_lost l m)
+where_refused a b name content e is_lost l m kept k =
+    subst (λ (x : Bool). Where a b (Places name content (Err (makes.Memory e)) x l m)) (sym kept) (where_map a b {P = KeepsObjects l m} {Q = Places name content (Err (makes.Memory e)) false l m} (λ o n h. refused name content e l m o n h) k)
 
 -- an object stands already
-pub where_stood : (a b d : Option Files) (name content : List ℕ) (l m n : Files → Type 0) (u v w : List ℕ → Type 0) → is_object name ≡ true → Leaves a b l m u v → Leaves b d m n v w → IfSome b (λ f. Looks name standings.PlainFile f)
-    → Where a d (Places name content (Err makes.Exists) l n)
-where_stood a b d name content l m n u v w is p q looks =
-    subst (λ (x : Option Files). Where x d (Places name content (Err makes.Exists) l n)) p.same
-    (subst (λ (x : Option Files). Where b x (Places name content (Err makes.Exists) l n)) (sym q.same) (by b looks))
+pub where_stood : (a b d : Option Files) (name content : List ℕ) (is_lost : Bool) (l m n : Files → Type 0) (u v w : List ℕ → Type 0) → is_object name ≡ true → is_lost ≡ false → Leaves a b l m u v → Leaves b d m n v w → IfSome b (λ f. Looks name standings.PlainFile f)
+    → Where a d (Places name content (Err makes.Exists) is_lost l n)
+where_stood a b d name content is_lost l m n u v w is kept p q looks =
+    subst (λ (y : Bool). Where a d (Places name content (Err makes.Exists) y l n)) (sym kept)
+    (subst (λ (x : Option Files). Where x d (Places name content (Err makes.Exists) false l n)) p.same
+    (subst (λ (x : Option Files). Where b x (Places name content (Err makes.Exists) false l n)) (sym q.same) (by b looks)))
   where
-    by : (x : Option Files) → IfSome x (λ f. Looks name standings.PlainFile f) → Where x x (Places name content (Err makes.Exists) l n)
+    by : (x : Option Files) → IfSome x (λ f. Looks name standings.PlainFile f) → Where x x (Places name content (Err makes.Exists) false l n)
     by None h = tt
     by (Some f) h = stood name content l n f is h.0 (λ c left. p.left c (q.left c left))
+
+-- ---- a removal in a row
+
+-- a name whose folder was put on the disk, behind its way
+pub seen_settled : (a b : Option Files) (name : List ℕ) (rr : Result (Unit {0}) Trouble) (n : Files → Type 0) (way : List ℕ → Type 0) → b ≡ a → way name → IfOk rr (λ _. IfSome b (λ f. IsSettled name way f n)) → IfOk rr (λ _. IfSome a (λ f. IsSeenAt name n f))
+seen_settled a b name (Ok done) n way same on h = subst (λ (x : Option Files). IfSome x (λ f. IsSeenAt name n f)) same (if_map b {Q = λ f. IsSettled name way f n} {R = λ f. IsSeenAt name n f} (λ f s c left. s.seen on c left name refl) h)
+seen_settled a b name (Err t) n way same on h = tt
+
+-- a name that is gone
+pub seen_removed : (a : Option Files) (name : List ℕ) (rr : Result (Unit {0}) Trouble) (n : Files → Type 0) (way : List ℕ → Type 0) → IfSome a (λ f. finmap.get f name ≡ None) → IfOk rr (λ _. IfSome a (λ f. IsSettled name way f n)) → IfOk rr (λ _. IfSome a (λ f. IsSeenAt name n f))
+seen_removed a name (Ok done) n way none h = if_both a {P = λ f. finmap.get f name ≡ None} {Q = λ f. IsSettled name way f n} {R = λ f. IsSeenAt name n f} (λ f e s. seen_gone name way n f e s) none h
+seen_removed a name (Err t) n way none h = tt
+
+-- a removal that was `Ok` left nothing
+pub gone_told : (a d : Option Files) (name : List ℕ) (r : Result (Unit {0}) Trouble) (l m : Files → Type 0) → Where a d (Removes name r l m) → IfOk r (λ _. IfSome d (λ f. finmap.get f name ≡ None))
+gone_told None None name (Ok done) l m h = tt
+gone_told None (Some n) name (Ok done) l m h = absurd h
+gone_told (Some o) None name (Ok done) l m h = absurd h
+gone_told (Some o) (Some n) name (Ok done) l m h = none_left name o n h.0
+gone_told a d name (Err t) l m h = tt
+
+-- the sync behind a removal, whatever it answers
+pub where_taken : (a d s : Option Files) (name : List ℕ) (r rr : Result (Unit {0}) Trouble) (l m n : Files → Type 0) (w x : List ℕ → Type 0) → Where a d (Removes name r l m) → Leaves d s m n w x → IfOk rr (λ _. IfSome d (λ f. IsSeenAt name n f))
+    → Where a s (Takes name (taken_of r rr) (is_err rr) l n)
+where_taken a d s name r rr l m n w x h leaves seen =
+    subst (λ (y : Option Files). Where a y (Takes name (taken_of r rr) (is_err rr) l n)) (sym leaves.same)
+    (where_beside a d {P = Removes name r l m} {R = Takes name (taken_of r rr) (is_err rr) l n} {Q = λ f. IfOk rr (λ _. IsSeenAt name n f)}
+    (λ o f q p. taken name l m n o f leaves.left r rr p q) (if_ok_some rr d (λ f. IsSeenAt name n f) seen) h)
+
+pub where_untaken : (a b : Option Files) (name : List ℕ) (t : Trouble) (is_lost : Bool) (l m : Files → Type 0) → is_lost ≡ false → Where a b (KeepsObjects l m) → Where a b (Takes name (Err t) is_lost l m)
+where_untaken a b name t is_lost l m kept k =
+    subst (λ (x : Bool). Where a b (Takes name (Err t) x l m)) (sym kept) (where_map a b {P = KeepsObjects l m} {Q = Takes name (Err t) false l m} (λ o n h. untaken name t l m o n h) k)
+
+pub where_takes : (a b c : Option Files) (name : List ℕ) (r : Result (Unit {0}) Trouble) (is_lost : Bool) (l m n : Files → Type 0) → Where a b (KeepsObjects l m) → Where b c (Takes name r is_lost m n) → Where a c (Takes name r is_lost l n)
+where_takes a b c name r is_lost l m n k h =
+    where_then a b c {P = KeepsObjects l m} {Q = Takes name r is_lost m n} {R = Takes name r is_lost l n} (λ o x y p q. takes_behind name r is_lost l m n o x y p q) k h

@@ -1,6 +1,6 @@
 -- What is said of a disk that tells, a call behind another.
-use Rattle.std.proofs.Common.{◌≡◌, ◌≢◌, ◌⊎◌, ℕ, true, List, [], Option, Some, None, refl, sym, ap, subst, ◌∙◌, inl, inr}
-use Rattle.std.specs.Prelude.{IfSome}
+use Rattle.std.proofs.Common.{◌≡◌, ◌≢◌, ◌⊎◌, ℕ, Bool, true, false, List, [], Option, Some, None, Result, Ok, Err, refl, sym, ap, subst, ◌∙◌, inl, inr}
+use Rattle.std.specs.Prelude.{IfSome, IfOk}
 use Rattle.std.specs.FinMap as finmap
 use Rattle.object_store.specs.Store.{State, WhereTold, LandsThen, AfterLanding}
 use Rattle.object_store.proofs.Landings.{HasLanded-refl}
@@ -63,11 +63,30 @@ if_all None f = tt
 if_all (Some x) f = f x
 
 -- nothing lands, and the work is done
-pub works : (a b : Option Files) (Work : State → State → Type 0) {P : Files → Files → Type 0} → ((o n : Files) → P o n → Work (state_of o) (state_of n)) → Where a b P → AfterLanding (state_in a) (state_in b) Work
-works None None Work f h = tt
-works None (Some n) Work f h = tt
-works (Some o) None Work f h = h
-works (Some o) (Some n) Work f h = (state_of o, HasLanded-refl (state_of o), f o n h)
+pub works : (a b : Option Files) (fa fb : Files) (Work : State → State → Type 0) {P : Files → Files → Type 0} → ((o n : Files) → P o n → Work (state_of o) (state_of n)) → Where a b P → AfterLanding (state_in a false fa) (state_in b false fb) Work
+works None None fa fb Work f h = tt
+works None (Some n) fa fb Work f h = tt
+works (Some o) None fa fb Work f h = h
+works (Some o) (Some n) fa fb Work f h = (state_of o, HasLanded-refl (state_of o), f o n h)
+
+-- the same where what was done is lost, and a crash leaves this
+pub works_lost : (a b : Option Files) (fa fb : Files) (Work : State → State → Type 0) {P : Files → Files → Type 0} {Q : Files → Type 0} {R : Type 0} → ((o n : Files) → Q o → R → P o n → Work (state_of o) (state_of fb)) → Where a b P → IfSome a Q → IfSome b (λ _. R)
+    → AfterLanding (state_in a false fa) (state_in b true fb) Work
+works_lost None None fa fb Work f h q r = tt
+works_lost None (Some n) fa fb Work f h q r = tt
+works_lost (Some o) None fa fb Work f h q r = h
+works_lost (Some o) (Some n) fa fb Work f h q r = (state_of o, HasLanded-refl (state_of o), f o n q r h)
+
+-- nothing is done
+pub works_not : (x : Option State) (Work : State → State → Type 0) → ((s : State) → Work s s) → AfterLanding x x Work
+works_not None Work f = tt
+works_not (Some s) Work f = (s, HasLanded-refl s, f s)
+
+-- what is said where an answer is `Ok`
+pub if_ok_some : {T E : Type 0} (r : Result T E) (a : Option Files) (Q : Files → Type 0) → IfOk r (λ _. IfSome a Q) → IfSome a (λ f. IfOk r (λ _. Q f))
+if_ok_some (Ok v) a Q h = h
+if_ok_some (Err e) None Q h = tt
+if_ok_some (Err e) (Some f) Q h = tt
 
 -- ---- calls that leave the files alone
 

@@ -2,6 +2,9 @@ pub mod Answers
 pub mod Disk
 pub mod Entries
 pub mod Folders
+pub mod Growing
+pub mod Lines
+pub mod Marks
 pub mod MemoryDisk
 pub mod Names
 pub mod Objects

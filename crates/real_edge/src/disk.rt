@@ -112,6 +112,9 @@ pub trait Disk: Drop {
     /// The files that a crash at this moment may leave.
     ghost may_leave: { Self → Files → Type 0 };
 
+    /// Those that it leaves, which are some of them. What decides is the disk's own, and no call tells.
+    ghost crashed: { Self → Files };
+
     /// The folders that this name is in are on the disk.
     ghost has_way: { Self → Items ℕ → Type 0 };
 
@@ -187,4 +190,7 @@ pub trait Disk: Drop {
 
     /// What is seen may be left.
     ghost seen_may_stay: { (d : Self) → IfSome (told d) (λ files. may_leave d files) };
+
+    /// What is left may be left.
+    ghost leaves_some: { (d : Self) → IfSome (told d) (λ _. may_leave d (crashed d)) };
 }

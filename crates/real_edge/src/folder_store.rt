@@ -3,9 +3,9 @@
 ghost use Rattle.std.specs.Prelude.{◌≡◌, ◌≤◌, None, Some, false, IfOk, IfSome, IsErr, IsErrOf, length};
 ghost use Rattle.std.specs.Option.{option_copied};
 ghost use Rattle.byte_fields.specs.Causes.{HasCause};
-ghost use Rattle.object_store.specs.Store.{AfterLanding, Creates, Gets, Deletes, Lists, given_more, is_wanted};
+ghost use Rattle.object_store.specs.Store.{State, AfterLanding, Creates, Gets, Deletes, Lists, given_more, is_wanted};
 ghost use Rattle.real_edge.specs.Answers.{get_answer};
-ghost use Rattle.real_edge.specs.Objects.{state_in, create_answer, delete_answer, IsPlaced, IsTaken, KeepsSafe};
+ghost use Rattle.real_edge.specs.Objects.{state_in, state_of, create_answer, delete_answer, IsPlaced, IsTaken, KeepsSafe, IsSure};
 ghost use Rattle.real_edge.specs.declared.folder_walk.Walk.{Walk};
 ghost use Rattle.real_edge.specs.Disk.{Files};
 ghost use Rattle.real_edge.specs.Walk.{IsLed};
@@ -27,10 +27,17 @@ use std::alloc::{AllocError, Global};
 /// A create writes a file beside, whose name no file had, puts it on the disk, links it under the key's name where nothing has that
 /// name, removes the first name, and puts the folder on the disk, so that a key never has half of an object, and an object that
 /// stands keeps its bytes. What is no plain file is no object.
+///
+/// Where a change of an object could not be put on the disk, nobody knows what a crash would leave of it. Behind that each call fails,
+/// until the store is opened anew: nothing is made, taken out or shown that rests on what the power may take.
 #[derive(Drop)]
 pub struct FolderStore<D: Disk> {
+    alloc: Global,
     disk: D,
     writer: Option<Writer>,
+    /// A change was not put on the disk, and may never be.
+    is_lost: bool,
+    ghost sure: { (files : Files) → D.told disk ≡ Some files → is_lost ≡ false → IsSure (D.may_leave disk) files },
     /// What gave the last page of a listing, where the page behind it may go on from there.
     walk: Option<Walk>,
     ghost walks: { (files : Files) → D.told disk ≡ Some files → (rests : Walk) → walk ≡ Some rests → IsLed rests files },
@@ -41,32 +48,46 @@ pub struct FolderStore<D: Disk> {
 
 impl<D: Disk> FolderStore<D> {
     fn over(alloc: Global, disk: D, writer: Option<Writer>) -> Result<FolderStore<D>, AllocError>
-        ensures { IfOk result (λ store. store.disk ≡ disk) }
+        requires { IfSome (D.told disk) (IsSure (D.may_leave disk)) }
+        ensures disk { IfOk result (λ store. store.disk ≡ disk) }
+        ensures kept { IfOk result (λ store. store.is_lost ≡ false) }
     {
         let faults = Faults::with_room(alloc, FolderPath::room(disk.path()))?;
         Ok(FolderStore {
+            alloc,
             disk,
             writer,
+            is_lost: false,
             walk: None,
             faults,
             given: 0,
         })
     }
 
-    /// The objects of this disk, to be read: each create and each delete is a failure. Nothing is asked of the disk yet.
+    /// The objects of this disk, to be read: each create and each delete is a failure. Nothing is asked of the disk yet. Where the disk
+    /// tells, what is seen of its objects is on it, as when the machine has just begun.
     pub fn reader_of(alloc: Global, disk: D) -> Result<FolderStore<D>, AllocError>
-        ensures { IfOk result (λ store. store.disk ≡ disk) }
+        requires { IfSome (D.told disk) (IsSure (D.may_leave disk)) }
+        ensures disk { IfOk result (λ store. store.disk ≡ disk) }
+        ensures kept { IfOk result (λ store. store.is_lost ≡ false) }
     {
         FolderStore::over(alloc, disk, None)
     }
 
-    /// The objects of this disk, to be read and written. The first call removes what killed writers left beside the objects.
-    /// `writer` names the files beside. Nothing is asked of the disk yet.
+    /// The same, to be read and written. The first call removes what killed writers left beside the objects, and puts all names on the
+    /// disk. `writer` names the files beside.
     pub fn writer_of(alloc: Global, disk: D, writer: u64) -> Result<FolderStore<D>, AllocError>
-        ensures { IfOk result (λ store. store.disk ≡ disk) }
+        requires { IfSome (D.told disk) (IsSure (D.may_leave disk)) }
+        ensures disk { IfOk result (λ store. store.disk ≡ disk) }
+        ensures kept { IfOk result (λ store. store.is_lost ≡ false) }
     {
         FolderStore::over(alloc, disk, Some(Writer::of(writer)))
     }
+
+    /// A crash leaves exactly the objects that the store tells, whenever it comes: the next life begins with these.
+    pub fn what_a_crash_leaves(&self)
+        ensures { (state : State) → state_in (D.told self.now.disk) self.now.is_lost (D.crashed self.now.disk) ≡ Some state → state ≡ state_of (D.crashed self.now.disk) }
+    {}
 
     /// Why it failed first, if it did.
     pub fn first_reason(&self) -> Option<&Reason> {
@@ -76,6 +97,7 @@ impl<D: Disk> FolderStore<D> {
     // No page goes on from names among which this key may come or go.
     fn forget(&mut self, key: &Key)
         ensures disk { self.new.disk ≡ self.old.disk }
+        ensures lost { self.new.is_lost ≡ self.old.is_lost }
         ensures faults { self.new.faults.count ≡ self.old.faults.count }
         ensures given { self.new.given ≡ self.old.given }
         ensures walk { IfSome self.new.walk (λ walk. is_wanted walk.prefix walk.after key.now ≡ false) }
@@ -93,6 +115,13 @@ fn without(walk: Option<Walk>, key: &Key) -> Option<Walk>
         Some(walk) => { if walk.seeks(key) { None } else { Some(walk) } }
         None => None,
     }
+}
+
+fn lost() -> Trouble {
+    Trouble::of(
+        "asking",
+        "a change before it may not be on the disk, until the folder is opened anew",
+    )
 }
 
 // What a create answers. A failure is counted.
@@ -167,8 +196,10 @@ impl<'a, F: WriterLock> FolderStore<HostDisk<'a, F>> {
         folder: &str,
     ) -> Result<FolderStore<HostDisk<'a, F>>, AllocError> {
         Ok(FolderStore {
+            alloc,
             disk: HostDisk::reading(alloc, files, folder)?,
             writer: None,
+            is_lost: false,
             walk: None,
             faults: Faults::with_room(alloc, FolderPath::room(folder))?,
             given: 0,
@@ -185,8 +216,10 @@ impl<'a, F: WriterLock> FolderStore<HostDisk<'a, F>> {
         writer: u64,
     ) -> Result<FolderStore<HostDisk<'a, F>>, AllocError> {
         Ok(FolderStore {
+            alloc,
             disk: HostDisk::writing(alloc, files, folder)?,
             writer: Some(Writer::of(writer)),
+            is_lost: false,
             walk: None,
             faults: Faults::with_room(alloc, FolderPath::room(folder))?,
             given: 0,
@@ -195,30 +228,45 @@ impl<'a, F: WriterLock> FolderStore<HostDisk<'a, F>> {
 }
 
 impl<D: Disk> ObjectStore for FolderStore<D> {
-    ghost told = { λ s. state_in (D.told s.disk) };
+    ghost told = { λ s. state_in (D.told s.disk) s.is_lost (D.crashed s.disk) };
 
     ghost fault_count = { λ s. s.faults.count };
 
     ghost given = { λ s. s.given };
 
     fn create(&mut self, alloc: Global, key: &Key, content: &[u8]) -> Result<(), CreateError>
-        ensures step { AfterLanding (state_in (D.told self.old.disk)) (state_in (D.told self.new.disk)) (Creates key.now content.now result) }
+        ensures step { AfterLanding (state_in (D.told self.old.disk) self.old.is_lost (D.crashed self.old.disk)) (state_in (D.told self.new.disk) self.new.is_lost (D.crashed self.new.disk)) (Creates key.now content.now result) }
         ensures cause { HasCause self.old.faults.count self.new.faults.count (IsErrOf result CreateError.Failed) }
         // Behind an `Ok` no crash takes the object, and no call makes one that was on the disk less safe.
         ensures disk { IfSome (D.told self.old.disk) (λ _. IsPlaced key.now content.now result (D.may_leave self.old.disk) (D.may_leave self.new.disk)) }
     {
+        if self.is_lost {
+            self.faults.add(self.disk.path(), lost());
+            return Err(CreateError::Failed);
+        }
         self.forget(key);
-        let made = make(&mut self.disk, alloc, &mut self.writer, key, content);
+        let made = make(
+            &mut self.disk,
+            alloc,
+            &mut self.writer,
+            &mut self.is_lost,
+            key,
+            content,
+        );
         answer_create(&mut self.faults, self.disk.path(), made)
     }
 
     fn get(&mut self, alloc: Global, key: &Key, from: u64, len: u64) -> Result<Piece, GetError>
-        ensures step { AfterLanding (state_in (D.told self.old.disk)) (state_in (D.told self.new.disk)) (Gets key.now from len result) }
+        ensures step { AfterLanding (state_in (D.told self.old.disk) self.old.is_lost (D.crashed self.old.disk)) (state_in (D.told self.new.disk) self.new.is_lost (D.crashed self.new.disk)) (Gets key.now from len result) }
         ensures bound { IfOk result (λ piece. length piece.bytes ≤ len) }
         ensures given { self.new.given ≡ given_more result self.old.given }
         ensures cause { HasCause self.old.faults.count self.new.faults.count (IsErrOf result GetError.Failed) }
         ensures disk { IfSome (D.told self.old.disk) (λ _. KeepsSafe (D.may_leave self.old.disk) (D.may_leave self.new.disk)) }
     {
+        if self.is_lost {
+            self.faults.add(self.disk.path(), lost());
+            return Err(GetError::Failed);
+        }
         let found = piece_of(&mut self.disk, alloc, &mut self.writer, key, from, len);
         let answer = answer_get(&mut self.faults, self.disk.path(), found);
         self.given = given_behind(self.given, &answer);
@@ -226,13 +274,23 @@ impl<D: Disk> ObjectStore for FolderStore<D> {
     }
 
     fn delete(&mut self, key: &Key) -> Result<(), Failed>
-        ensures step { AfterLanding (state_in (D.told self.old.disk)) (state_in (D.told self.new.disk)) (Deletes key.now result) }
+        ensures step { AfterLanding (state_in (D.told self.old.disk) self.old.is_lost (D.crashed self.old.disk)) (state_in (D.told self.new.disk) self.new.is_lost (D.crashed self.new.disk)) (Deletes key.now result) }
         ensures cause { HasCause self.old.faults.count self.new.faults.count (IsErr result) }
         // Behind an `Ok` no crash brings the object back, and no call makes another that was on the disk less safe.
         ensures disk { IfSome (D.told self.old.disk) (λ _. IsTaken key.now result (D.may_leave self.old.disk) (D.may_leave self.new.disk)) }
     {
+        if self.is_lost {
+            self.faults.add(self.disk.path(), lost());
+            return Err(Failed);
+        }
         self.forget(key);
-        let taken = take_out(&mut self.disk, self.writer.is_some(), key);
+        let taken = take_out(
+            &mut self.disk,
+            self.alloc,
+            self.writer.is_some(),
+            &mut self.is_lost,
+            key,
+        );
         answer_delete(&mut self.faults, self.disk.path(), taken)
     }
 
@@ -244,11 +302,15 @@ impl<D: Disk> ObjectStore for FolderStore<D> {
         max: u32,
     ) -> Result<Keys, ListError>
         requires { 1 ≤ max }
-        ensures step { AfterLanding (state_in (D.told self.old.disk)) (state_in (D.told self.new.disk)) (Lists prefix.now (option_copied after.entry) max result) }
+        ensures step { AfterLanding (state_in (D.told self.old.disk) self.old.is_lost (D.crashed self.old.disk)) (state_in (D.told self.new.disk) self.new.is_lost (D.crashed self.new.disk)) (Lists prefix.now (option_copied after.entry) max result) }
         ensures bound { IfOk result (λ keys. length keys ≤ max) }
         ensures cause { HasCause self.old.faults.count self.new.faults.count (IsErrOf result ListError.Failed) }
         ensures disk { IfSome (D.told self.old.disk) (λ _. KeepsSafe (D.may_leave self.old.disk) (D.may_leave self.new.disk)) }
     {
+        if self.is_lost {
+            self.faults.add(self.disk.path(), lost());
+            return Err(ListError::Failed);
+        }
         let walk = self.walk.take();
         match keys_of(
             &mut self.disk,

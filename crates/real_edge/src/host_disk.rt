@@ -1,6 +1,7 @@
 //! A folder of the system as a disk.
 
 ghost use Rattle.std.specs.Prelude.{◌≡◌, ◌≤◌, true, None, IfOk, IfSome, IsErr, length, ⊤};
+ghost use Rattle.std.specs.FinMap.{empty};
 
 use crate::disk::{Disk, DiskError, MakeError, Stamp, Standing};
 use crate::faults::{Trouble, tried};
@@ -170,9 +171,13 @@ impl<'a, F: WriterLock> Disk for HostDisk<'a, F> {
 
     ghost may_leave = { λ _ _. ⊤ };
 
+    ghost crashed = { λ _. empty };
+
     ghost has_way = { λ _ _. ⊤ };
 
     ghost seen_may_stay = { λ _. tt };
+
+    ghost leaves_some = { λ _. tt };
 
     fn claim(&mut self) -> Result<(), Trouble> {
         if self.is_writer && self.held.is_none() {

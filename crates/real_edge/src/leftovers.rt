@@ -10,6 +10,9 @@ use crate::object_names::{is_object, is_of_beside, joined};
 use byte_fields::{Bytes, List};
 use std::alloc::{AllocError, Global};
 
+/// A name, which stands for any in a folder.
+const NAME: &[u8] = b"x";
+
 // A file beside is removed, where it is one.
 fn clear_beside<D: Disk>(disk: &mut D, path: &[u8], name: &[u8])
     requires { is_object path.now ≡ false }
@@ -65,12 +68,13 @@ fn names_of<D: Disk>(disk: &mut D, alloc: Global, folder: &[u8]) -> Result<List<
     }
 }
 
+// Clears a folder, and puts on the disk what it names then: a writer before may have been killed before it did.
 fn clear_folder<D: Disk>(
     disk: &mut D,
     alloc: Global,
     folder: &[u8],
     folders: &mut Vec<Bytes>,
-) -> Result<(), AllocError>
+) -> Result<(), DiskError>
     ensures { Where (D.told disk.old) (D.told disk.new) (KeepsObjects (D.may_leave disk.old) (D.may_leave disk.new)) }
 {
     let has_folders = disk.may_have_folders(folder);
@@ -79,11 +83,16 @@ fn clear_folder<D: Disk>(
         let path = joined(alloc, folder, name.as_slice())?;
         clear_name(disk, path, name.as_slice(), has_folders, folders)?;
     }
-    Ok(())
+    let name = joined(alloc, folder, NAME)?;
+    match disk.sync(name.as_slice()) {
+        Ok(()) => Ok(()),
+        Err(trouble) => Err(DiskError::Failed(trouble)),
+    }
 }
 
-/// Removes the files beside in a folder and in the folders of its keys. What can't be read or removed stays; only memory fails.
-pub fn clear<D: Disk>(disk: &mut D, alloc: Global) -> Result<(), AllocError>
+/// Removes the files beside on a disk and in the folders of its keys, and puts on the disk what these name. What can't be read or
+/// removed stays.
+pub fn clear<D: Disk>(disk: &mut D, alloc: Global) -> Result<(), DiskError>
     ensures { Where (D.told disk.old) (D.told disk.new) (KeepsObjects (D.may_leave disk.old) (D.may_leave disk.new)) }
 {
     let mut folders = Vec::new(alloc);

@@ -1,7 +1,7 @@
 //! A disk in memory.
 
 ghost use Rattle.std.specs.Prelude.{◌≡◌, ◌≤◌, ◌++◌, ◌∷◌, [], IfOk, IfSome, OnOk, OnErr, Some, ⊤, refl, length, List as Items, ℕ};
-ghost use Rattle.std.proofs.Common.{inl};
+ghost use Rattle.std.proofs.Common.{inl, inr};
 ghost use Rattle.std.specs.FinMap as finmap;
 ghost use Rattle.object_store.specs.Store.{IsPieceOf};
 ghost use Rattle.real_edge.specs.Disk.{Files, Looks, Reads};
@@ -139,9 +139,13 @@ impl Disk for MemoryDisk {
 
     ghost may_leave = { λ d c. IsLeft d.files.objects d.synced.objects c };
 
+    ghost crashed = { λ d. d.synced.objects };
+
     ghost has_way = { λ _ _. ⊤ };
 
     ghost seen_may_stay = { λ d q. inl refl };
+
+    ghost leaves_some = { λ d q. inr refl };
 
     fn claim(&mut self) -> Result<(), Trouble> {
         if self.calls.begin().is_err() {

@@ -1,11 +1,12 @@
 //! The calls of a store of objects, over its disk.
 
-ghost use Rattle.std.specs.Prelude.{◌≡◌, ◌≤◌, true, IfOk, IfSome, length, take};
+ghost use Rattle.std.specs.Prelude.{◌≡◌, ◌≤◌, true, false, None, IfOk, IfSome, length, take};
+ghost use Rattle.std.specs.FinMap.{get};
 ghost use Rattle.std.specs.Option.{option_copied};
 ghost use Rattle.object_store.specs.Store.{listed};
 ghost use Rattle.real_edge.specs.Disk.{Where, Reads, Leaves};
 ghost use Rattle.real_edge.specs.Names.{is_object};
-ghost use Rattle.real_edge.specs.Objects.{KeepsObjects, Places, Takes, objects_of};
+ghost use Rattle.real_edge.specs.Objects.{KeepsObjects, Places, Takes, IsSeenAt, objects_of, taken_of};
 ghost use Rattle.real_edge.specs.Walk.{IsCovering};
 
 use crate::disk::{Disk, DiskError, MakeError};
@@ -30,13 +31,9 @@ fn clear_once<D: Disk>(disk: &mut D, alloc: Global, writer: &mut Writer) -> Resu
     if writer.has_cleared {
         return Ok(());
     }
-    match clear(disk, alloc) {
-        Ok(()) => {
-            writer.has_cleared = true;
-            Ok(())
-        }
-        Err(refused) => Err(DiskError::Memory(refused)),
-    }
+    clear(disk, alloc)?;
+    writer.has_cleared = true;
+    Ok(())
 }
 
 // A writer's disk is its own, and has no files beside of others.
@@ -58,10 +55,12 @@ pub fn make<D: Disk>(
     disk: &mut D,
     alloc: Global,
     writer: &mut Option<Writer>,
+    is_lost: &mut bool,
     key: &Key,
     content: &[u8],
 ) -> Result<(), MakeError>
-    ensures { Where (D.told disk.old) (D.told disk.new) (Places key.now content.now result (D.may_leave disk.old) (D.may_leave disk.new)) }
+    requires { is_lost.old ≡ false }
+    ensures { Where (D.told disk.old) (D.told disk.new) (Places key.now content.now result is_lost.new (D.may_leave disk.old) (D.may_leave disk.new)) }
 {
     match begin(disk, alloc, writer) {
         Ok(()) => {}
@@ -69,7 +68,7 @@ pub fn make<D: Disk>(
         Err(DiskError::Failed(trouble)) => return Err(MakeError::Failed(trouble)),
     }
     match writer {
-        Some(writer) => place(disk, alloc, writer, key.as_bytes(), content),
+        Some(writer) => place(disk, alloc, writer, is_lost, key.as_bytes(), content),
         None => Err(MakeError::Failed(Trouble::of("making", "the store is only read"))),
     }
 }
@@ -93,9 +92,72 @@ pub fn piece_of<D: Disk>(
     disk.read(alloc, name, from, len)
 }
 
+// Puts on the disk what stands under a name, or that nothing does.
+fn settle<D: Disk>(disk: &mut D, alloc: Global, name: &[u8]) -> Result<(), Trouble>
+    ensures leaves { Leaves (D.told disk.old) (D.told disk.new) (D.may_leave disk.old) (D.may_leave disk.new) (D.has_way disk.old) (D.has_way disk.new) }
+    ensures seen { IfOk result (λ _. IfSome (D.told disk.old) (IsSeenAt name.now (D.may_leave disk.new))) }
+{
+    match disk.make_way(alloc, name) {
+        Ok(()) => disk.sync(name),
+        Err(DiskError::Memory(refused)) => Err(Trouble::from(refused)),
+        Err(DiskError::Failed(trouble)) => Err(trouble),
+    }
+}
+
+// Puts on the disk that a name was removed, or what stands there where it may not be.
+fn settle_removal<D: Disk>(
+    disk: &mut D,
+    alloc: Global,
+    name: &[u8],
+    removed: &Result<(), Trouble>,
+) -> Result<(), Trouble>
+    requires { IfOk removed.now (λ _. IfSome (D.told disk.old) (λ files. get files name.now ≡ None)) }
+    ensures leaves { Leaves (D.told disk.old) (D.told disk.new) (D.may_leave disk.old) (D.may_leave disk.new) (D.has_way disk.old) (D.has_way disk.new) }
+    ensures seen { IfOk result (λ _. IfSome (D.told disk.old) (IsSeenAt name.now (D.may_leave disk.new))) }
+{
+    match removed {
+        Ok(()) => disk.sync(name),
+        Err(_) => settle(disk, alloc, name),
+    }
+}
+
+// What comes of a removal, and of the sync behind it.
+fn taken(removed: Result<(), Trouble>, synced: Result<(), Trouble>) -> Result<(), Trouble>
+    ensures { result ≡ taken_of removed synced }
+{
+    match removed {
+        Ok(()) => synced,
+        Err(trouble) => Err(trouble),
+    }
+}
+
+// The object's name away, and its folder on the disk, whether it is away or not. Where that fails a crash may bring the object back,
+// or take it: it is lost.
+fn remove_object<D: Disk>(
+    disk: &mut D,
+    alloc: Global,
+    is_lost: &mut bool,
+    name: &[u8],
+) -> Result<(), Trouble>
+    requires { is_lost.old ≡ false }
+    ensures { Where (D.told disk.old) (D.told disk.new) (Takes name.now result is_lost.new (D.may_leave disk.old) (D.may_leave disk.new)) }
+{
+    let removed = disk.remove(name);
+    let synced = settle_removal(disk, alloc, name, &removed);
+    *is_lost = synced.is_err();
+    taken(removed, synced)
+}
+
 /// Takes an object out.
-pub fn take_out<D: Disk>(disk: &mut D, is_writer: bool, key: &Key) -> Result<(), Trouble>
-    ensures { Where (D.told disk.old) (D.told disk.new) (Takes key.now result (D.may_leave disk.old) (D.may_leave disk.new)) }
+pub fn take_out<D: Disk>(
+    disk: &mut D,
+    alloc: Global,
+    is_writer: bool,
+    is_lost: &mut bool,
+    key: &Key,
+) -> Result<(), Trouble>
+    requires { is_lost.old ≡ false }
+    ensures { Where (D.told disk.old) (D.told disk.new) (Takes key.now result is_lost.new (D.may_leave disk.old) (D.may_leave disk.new)) }
 {
     match disk.claim() {
         Ok(()) => {}
@@ -104,11 +166,7 @@ pub fn take_out<D: Disk>(disk: &mut D, is_writer: bool, key: &Key) -> Result<(),
     if !is_writer {
         return Err(Trouble::of("removing", "the store is only read"));
     }
-    let name = key.as_bytes();
-    match disk.remove(name) {
-        Ok(()) => disk.sync(name),
-        Err(trouble) => Err(trouble),
-    }
+    remove_object(disk, alloc, is_lost, key.as_bytes())
 }
 
 // A walk that gave the page before, where it can go on, or else a new one.

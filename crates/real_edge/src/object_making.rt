@@ -3,7 +3,7 @@
 ghost use Rattle.std.specs.Prelude.{◌≡◌, ◌≤◌, List, ℕ, false, true, IfOk, IfErr};
 ghost use Rattle.real_edge.specs.Disk.{Where, Makes, Leaves};
 ghost use Rattle.real_edge.specs.Names.{is_object};
-ghost use Rattle.real_edge.specs.Objects.{Places, Made, KeepsObjects, both_of};
+ghost use Rattle.real_edge.specs.Objects.{Places, Made, KeepsObjects, both_of, made_of};
 
 use crate::disk::{Disk, DiskError, MakeError, Standing};
 use crate::faults::Trouble;
@@ -79,17 +79,33 @@ fn both(linked: Result<(), MakeError>, removed: Result<(), Trouble>) -> Result<(
     }
 }
 
-// The file beside, a link to it under the object's name, the name beside away, and the folder on the disk.
+// And of the sync behind them.
+fn made(done: Result<(), MakeError>, synced: Result<(), Trouble>) -> Result<(), MakeError>
+    ensures { result ≡ made_of done synced }
+{
+    match (done, synced) {
+        (Err(MakeError::Failed(trouble)), _) => Err(MakeError::Failed(trouble)),
+        (Ok(()), Ok(())) => Ok(()),
+        (Err(MakeError::Exists), Ok(())) => Err(MakeError::Exists),
+        (Err(MakeError::Memory(refused)), Ok(())) => Err(MakeError::Memory(refused)),
+        (_, Err(trouble)) => Err(MakeError::Failed(trouble)),
+    }
+}
+
+// The file beside, a link to it under the object's name, the name beside away, and the folder on the disk, whatever failed before.
+// Where that fails a crash may leave the object or not: it is lost.
 fn place_new<D: Disk>(
     disk: &mut D,
     alloc: Global,
     writer: &mut Writer,
+    is_lost: &mut bool,
     name: &[u8],
     content: &[u8],
 ) -> Result<(), MakeError>
     requires object { is_object name.now ≡ true }
     requires way { D.has_way disk.old name.now }
-    ensures { Where (D.told disk.old) (D.told disk.new) (Places name.now content.now result (D.may_leave disk.old) (D.may_leave disk.new)) }
+    requires kept { is_lost.old ≡ false }
+    ensures { Where (D.told disk.old) (D.told disk.new) (Places name.now content.now result is_lost.new (D.may_leave disk.old) (D.may_leave disk.new)) }
 {
     let beside = match make_beside(disk, alloc, writer, &name[..folder_len(name)], content) {
         Ok(beside) => beside,
@@ -98,13 +114,9 @@ fn place_new<D: Disk>(
     };
     let linked = disk.link(alloc, beside.as_slice(), name);
     let removed = disk.remove(beside.as_slice());
-    match both(linked, removed) {
-        Ok(()) => match disk.sync(name) {
-            Ok(()) => Ok(()),
-            Err(trouble) => Err(MakeError::Failed(trouble)),
-        },
-        Err(fault) => Err(fault),
-    }
+    let synced = disk.sync(name);
+    *is_lost = synced.is_err();
+    made(both(linked, removed), synced)
 }
 
 /// Makes an object of these bytes, where nothing stands under its name.
@@ -112,11 +124,13 @@ pub fn place<D: Disk>(
     disk: &mut D,
     alloc: Global,
     writer: &mut Writer,
+    is_lost: &mut bool,
     name: &[u8],
     content: &[u8],
 ) -> Result<(), MakeError>
     requires object { is_object name.now ≡ true }
-    ensures { Where (D.told disk.old) (D.told disk.new) (Places name.now content.now result (D.may_leave disk.old) (D.may_leave disk.new)) }
+    requires kept { is_lost.old ≡ false }
+    ensures { Where (D.told disk.old) (D.told disk.new) (Places name.now content.now result is_lost.new (D.may_leave disk.old) (D.may_leave disk.new)) }
 {
     match disk.make_way(alloc, name) {
         Ok(()) => {}
@@ -124,7 +138,7 @@ pub fn place<D: Disk>(
         Err(DiskError::Failed(trouble)) => return Err(MakeError::Failed(trouble)),
     }
     match disk.look(name) {
-        Ok(Standing::Nothing) => place_new(disk, alloc, writer, name, content),
+        Ok(Standing::Nothing) => place_new(disk, alloc, writer, is_lost, name, content),
         Ok(Standing::PlainFile) => Err(MakeError::Exists),
         Ok(_) => {
             let why = Trouble::of("making", "what stands there is no plain file");

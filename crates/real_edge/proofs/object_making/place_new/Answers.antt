@@ -1,53 +1,45 @@
-use Rattle.std.proofs.Common.{◌≡◌, Ok, Err, sym}
+use Rattle.std.proofs.Common.{◌≡◌, Bool, Result, sym, subst}
+use Rattle.std.specs.Prelude.{is_err}
 use Rattle.real_edge.proofs.Wheres.{where_map}
-use Rattle.real_edge.proofs.Steps.{refused, failed, where_both, where_synced, where_unsynced, where_ended}
+use Rattle.real_edge.proofs.Steps.{where_refused, where_failed, where_both, where_ended}
+use Rattle.real_edge.specs.declared.disk.MakeError.{MakeError}
 use Rattle.real_edge.specs.Disk.{Where}
-use Rattle.real_edge.specs.Objects.{both_of}
-use Rattle.real_edge.proofs.Steps.{Linked}
+use Rattle.real_edge.specs.Objects.{both_of, made_of, Places}
 use Rattle.real_edge.proofs.object_making.place_new.Goals as goal
 
 pub returns-in-Err-Memory : goal.returns-in-Err-Memory
 returns-in-Err-Memory g c =
-    where_map (g.D.Disk.told c.args.disk.now) (g.D.Disk.told c.make_beside.new.disk)
-    (λ o n h. refused c.args.name.now c.args.content.now _ (g.D.Disk.may_leave c.args.disk.now) (g.D.Disk.may_leave c.make_beside.new.disk) o n h) c.in-Err-Memory.ensures.failed
+    let told = g.D.Disk.told in
+    let left = g.D.Disk.may_leave in
+    let a = c.args.disk.now in
+    let b = c.make_beside.new.disk in
+    where_refused (told a) (told b) c.args.name.now c.args.content.now _ c.args.is_lost.now (left a) (left b) c.requires.kept c.in-Err-Memory.ensures.failed
 
 pub returns-in-Err-Failed : goal.returns-in-Err-Failed
 returns-in-Err-Failed g c =
-    where_map (g.D.Disk.told c.args.disk.now) (g.D.Disk.told c.make_beside.new.disk)
-    (λ o n h. failed c.args.name.now c.args.content.now _ (g.D.Disk.may_leave c.args.disk.now) (g.D.Disk.may_leave c.make_beside.new.disk) o n h) c.in-Err-Failed.ensures.failed
-
-pub returns-in-Ok-sync : goal.returns-in-Ok-sync
-returns-in-Ok-sync g c =
-    let both = where_both (g.D.Disk.told c.args.disk.now) (g.D.Disk.told c.make_beside.new.disk) (g.D.Disk.told c.link-linked.new.self) (g.D.Disk.told c.remove-removed.new.self)
-    c.in-Ok.beside.items c.args.name.now c.args.content.now c.link-linked.result c.remove-removed.result
-    (g.D.Disk.may_leave c.args.disk.now) (g.D.Disk.may_leave c.make_beside.new.disk) (g.D.Disk.may_leave c.link-linked.new.self) (g.D.Disk.may_leave c.remove-removed.new.self)
-    c.requires.object c.in-Ok.ensures.name (g.met.D.Disk.seen_may_stay c.args.disk.now) c.in-Ok.ensures.made
-    (rw c.as_slice.ensures.value at c.link-linked.ensures.step) (rw c.as_slice-2.ensures.value at c.remove-removed.ensures.step) in
-    where_synced (g.D.Disk.told c.args.disk.now) (g.D.Disk.told c.remove-removed.new.self) (g.D.Disk.told c.sync.new.self) c.args.name.now c.args.content.now (both_of c.link-linked.result c.remove-removed.result)
-    (g.D.Disk.may_leave c.args.disk.now) (g.D.Disk.may_leave c.remove-removed.new.self) (g.D.Disk.may_leave c.sync.new.self)
-    (g.D.Disk.has_way c.remove-removed.new.self) (g.D.Disk.has_way c.sync.new.self)
-    (sym c.in-Ok-both.ensures)
-    (c.remove-removed.ensures.ways c.args.name.now (c.link-linked.ensures.ways c.args.name.now (c.make_beside.ensures.ways c.args.name.now c.requires.way)))
-    both c.sync.ensures.leaves c.in-Ok-sync.ensures.settled
-
-pub returns-in-Ok-both : goal.returns-in-Ok-both
-returns-in-Ok-both g c =
-    let both = where_both (g.D.Disk.told c.args.disk.now) (g.D.Disk.told c.make_beside.new.disk) (g.D.Disk.told c.link-linked.new.self) (g.D.Disk.told c.remove-removed.new.self)
-    c.in-Ok.beside.items c.args.name.now c.args.content.now c.link-linked.result c.remove-removed.result
-    (g.D.Disk.may_leave c.args.disk.now) (g.D.Disk.may_leave c.make_beside.new.disk) (g.D.Disk.may_leave c.link-linked.new.self) (g.D.Disk.may_leave c.remove-removed.new.self)
-    c.requires.object c.in-Ok.ensures.name (g.met.D.Disk.seen_may_stay c.args.disk.now) c.in-Ok.ensures.made
-    (rw c.as_slice.ensures.value at c.link-linked.ensures.step) (rw c.as_slice-2.ensures.value at c.remove-removed.ensures.step) in
-    where_unsynced (g.D.Disk.told c.args.disk.now) (g.D.Disk.told c.remove-removed.new.self) (g.D.Disk.told c.sync.new.self) c.args.name.now c.args.content.now _ (both_of c.link-linked.result c.remove-removed.result)
-    (g.D.Disk.may_leave c.args.disk.now) (g.D.Disk.may_leave c.remove-removed.new.self) (g.D.Disk.may_leave c.sync.new.self)
-    (g.D.Disk.has_way c.remove-removed.new.self) (g.D.Disk.has_way c.sync.new.self)
-    (sym c.in-Ok-both.ensures) both c.sync.ensures.leaves
+    let told = g.D.Disk.told in
+    let left = g.D.Disk.may_leave in
+    let a = c.args.disk.now in
+    let b = c.make_beside.new.disk in
+    where_failed (told a) (told b) c.args.name.now c.args.content.now _ c.args.is_lost.now (left a) (left b) c.requires.kept c.in-Err-Failed.ensures.failed
 
 pub returns : goal.returns
 returns g c =
-    let both = where_both (g.D.Disk.told c.args.disk.now) (g.D.Disk.told c.make_beside.new.disk) (g.D.Disk.told c.link-linked.new.self) (g.D.Disk.told c.remove-removed.new.self)
-    c.in-Ok.beside.items c.args.name.now c.args.content.now c.link-linked.result c.remove-removed.result
-    (g.D.Disk.may_leave c.args.disk.now) (g.D.Disk.may_leave c.make_beside.new.disk) (g.D.Disk.may_leave c.link-linked.new.self) (g.D.Disk.may_leave c.remove-removed.new.self)
-    c.requires.object c.in-Ok.ensures.name (g.met.D.Disk.seen_may_stay c.args.disk.now) c.in-Ok.ensures.made
-    (rw c.as_slice.ensures.value at c.link-linked.ensures.step) (rw c.as_slice-2.ensures.value at c.remove-removed.ensures.step) in
-    where_ended (g.D.Disk.told c.args.disk.now) (g.D.Disk.told c.remove-removed.new.self) c.args.name.now c.args.content.now c.in-Err.fault (both_of c.link-linked.result c.remove-removed.result)
-    (g.D.Disk.may_leave c.args.disk.now) (g.D.Disk.may_leave c.remove-removed.new.self) (sym c.in-Err.ensures) both
+    let told = g.D.Disk.told in
+    let left = g.D.Disk.may_leave in
+    let way = g.D.Disk.has_way in
+    let a = c.args.disk.now in
+    let b = c.make_beside.new.disk in
+    let d = c.link-linked.new.self in
+    let e = c.remove-removed.new.self in
+    let s = c.sync-synced.new.self in
+    let name = c.args.name.now in
+    let content = c.args.content.now in
+    let r = both_of c.link-linked.result c.remove-removed.result in
+    let linked = where_both (told a) (told b) (told d) (told e) c.in-Ok.beside.items name content c.link-linked.result c.remove-removed.result (left a) (left b) (left d) (left e)
+        c.requires.object c.in-Ok.ensures.name (g.met.D.Disk.seen_may_stay a) c.in-Ok.ensures.made
+        (rw c.as_slice.ensures.value at c.link-linked.ensures.step) (rw c.as_slice-2.ensures.value at c.remove-removed.ensures.step) in
+    let ends = where_ended (told a) (told e) (told s) name content r c.sync-synced.result (left a) (left e) (left s) (way e) (way s)
+        (c.remove-removed.ensures.ways name (c.link-linked.ensures.ways name (c.make_beside.ensures.ways name c.requires.way)))
+        linked c.sync-synced.ensures.leaves c.sync-synced.ensures.settled in
+    rw (c.made.ensures, c.both.ensures, c.is_err.ensures.value) ends

@@ -1,25 +1,25 @@
-//! What is opened on a disk in memory.
+//! What is opened on a file system in memory.
 
 ghost use Rattle.std.specs.Prelude.{◌≡◌, ◌≤◌, length};
 
 use crate::failing::Turn;
-use crate::memory_disk::{MemoryDisk, State};
+use crate::memory_tree::{MemoryTree, State};
 use real_edge::WriterLock;
-use std::alloc::{AllocError, Allocator};
+use std::alloc::Allocator;
 use std::cell::Cell;
 use std::fs::{Files, Metadata, OpenFile, OpenOptions};
 use std::io::{self, ErrorKind, Read, Seek, SeekFrom, Write};
 use std::time::{Clock, Duration};
 
-/// A disk in memory as the system's files.
+/// A file system in memory as the system's files.
 #[derive(Drop)]
 pub struct MemoryFiles {
-    disk: MemoryDisk,
+    tree: MemoryTree,
 }
 
 /// A file or a folder that was opened, and the place of its next read or write.
 pub struct MemoryFile {
-    disk: MemoryDisk,
+    tree: MemoryTree,
     node: usize,
     at: u64,
     writes: bool,
@@ -29,14 +29,14 @@ pub struct MemoryFile {
 impl Drop for MemoryFile {
     fn drop(self) {
         let MemoryFile {
-            disk,
+            tree,
             node,
             at: _,
             writes: _,
             has_lock,
         } = self;
         if has_lock.get() {
-            if let Ok(mut state) = disk.state() {
+            if let Ok(mut state) = tree.state() {
                 state.unlock(node);
             }
         }
@@ -46,7 +46,7 @@ impl Drop for MemoryFile {
 /// A folder that was opened to be read: its names that were not read yet.
 #[derive(Drop)]
 pub struct MemoryDir {
-    disk: MemoryDisk,
+    tree: MemoryTree,
     names: Vec<u8>,
     at: usize,
 }
@@ -56,10 +56,12 @@ fn unsupported() -> io::Error {
 }
 
 impl MemoryFiles {
-    pub fn over(disk: &MemoryDisk) -> Result<MemoryFiles, AllocError> {
-        Ok(MemoryFiles {
-            disk: disk.share()?,
-        })
+    pub fn over(tree: MemoryTree) -> MemoryFiles {
+        MemoryFiles { tree }
+    }
+
+    pub fn tree(&self) -> &MemoryTree {
+        &self.tree
     }
 }
 
@@ -109,11 +111,11 @@ impl Files for MemoryFiles {
     type Dir = MemoryDir;
 
     fn open_file(&self, how: &OpenOptions, path: &str) -> io::Result<MemoryFile> {
-        let mut state = self.disk.state()?;
+        let mut state = self.tree.state()?;
         let turn = state.turn()?;
         let node = turn.end(opened(&mut state, how, path))?;
         Ok(MemoryFile {
-            disk: self.disk.share()?,
+            tree: self.tree.share()?,
             node,
             at: 0,
             writes: how.asks_write(),
@@ -122,18 +124,18 @@ impl Files for MemoryFiles {
     }
 
     fn open_dir(&self, path: &str) -> io::Result<MemoryDir> {
-        let mut state = self.disk.state()?;
+        let mut state = self.tree.state()?;
         let turn = state.turn()?;
         let node = turn.end(state.find(path))?;
         Ok(MemoryDir {
-            disk: self.disk.share()?,
+            tree: self.tree.share()?,
             names: state.list(node)?,
             at: 0,
         })
     }
 
     fn metadata(&self, path: &str) -> io::Result<Metadata> {
-        let mut state = self.disk.state()?;
+        let mut state = self.tree.state()?;
         let turn = state.turn()?;
         turn.end(looked_at(&state, path))
     }
@@ -151,13 +153,13 @@ impl Files for MemoryFiles {
     }
 
     fn remove_file(&self, path: &str) -> io::Result<()> {
-        let mut state = self.disk.state()?;
+        let mut state = self.tree.state()?;
         let turn = state.turn()?;
         turn.end(state.remove(path))
     }
 
     fn create_dir(&self, path: &str) -> io::Result<()> {
-        let mut state = self.disk.state()?;
+        let mut state = self.tree.state()?;
         let turn = state.turn()?;
         turn.end(state.add_folder(path))
     }
@@ -171,7 +173,7 @@ impl Files for MemoryFiles {
     }
 
     fn hard_link(&self, original: &str, link: &str) -> io::Result<()> {
-        let mut state = self.disk.state()?;
+        let mut state = self.tree.state()?;
         let turn = state.turn()?;
         turn.end(state.link(original, link))
     }
@@ -190,7 +192,7 @@ impl Clock for MemoryFiles {
 
 impl WriterLock for MemoryFiles {
     fn try_lock(&self, file: &MemoryFile) -> io::Result<bool> {
-        let mut state = self.disk.state()?;
+        let mut state = self.tree.state()?;
         let turn = state.turn()?;
         let locked = state.lock(file.node)?;
         if locked {
@@ -202,27 +204,24 @@ impl WriterLock for MemoryFiles {
 
 impl OpenFile for MemoryFile {
     fn metadata(&self) -> io::Result<Metadata> {
-        let mut state = self.disk.state()?;
+        let mut state = self.tree.state()?;
         let turn = state.turn()?;
         turn.end(Ok(metadata_of(&state, self.node)))
     }
 
     fn set_len(&self, size: u64) -> io::Result<()> {
-        let mut state = self.disk.state()?;
+        let mut state = self.tree.state()?;
         let turn = state.turn()?;
         turn.end(state.resize(self.node, size as usize))
     }
 
     fn sync_all(&self) -> io::Result<()> {
-        let mut state = self.disk.state()?;
+        let mut state = self.tree.state()?;
         let synced = match state.turn() {
             Ok(turn) => turn.end(state.sync(self.node)),
             Err(fault) => Err(fault),
         };
-        if synced.is_err() {
-            state.lose_sync(self.node);
-        }
-        synced
+        state.end_sync(self.node, synced)
     }
 
     fn sync_data(&self) -> io::Result<()> {
@@ -252,7 +251,7 @@ fn give(buf: &mut [u8], left: &[u8], count: usize) -> usize
 
 impl Read for MemoryFile {
     fn read(&mut self, buf: &mut [u8]) -> io::Result<usize> {
-        let mut state = self.disk.state()?;
+        let mut state = self.tree.state()?;
         let turn = state.turn()?;
         if state.is_folder(self.node) {
             return Err(io::Error::from(ErrorKind::IsADirectory));
@@ -272,7 +271,7 @@ impl Read for MemoryFile {
 
 impl Write for MemoryFile {
     fn write(&mut self, buf: &[u8]) -> io::Result<usize> {
-        let mut state = self.disk.state()?;
+        let mut state = self.tree.state()?;
         let turn = state.turn()?;
         if !self.writes {
             return Err(io::Error::from(ErrorKind::PermissionDenied));
@@ -291,7 +290,7 @@ impl Write for MemoryFile {
 
 impl Seek for MemoryFile {
     fn seek(&mut self, to: SeekFrom) -> io::Result<u64> {
-        let mut state = self.disk.state()?;
+        let mut state = self.tree.state()?;
         let turn = state.turn()?;
         match to {
             SeekFrom::Start(at) => self.at = at,
@@ -317,7 +316,7 @@ fn whole_names(names: &[u8], room: usize, short: bool) -> usize {
 
 impl Read for MemoryDir {
     fn read(&mut self, buf: &mut [u8]) -> io::Result<usize> {
-        let mut state = self.disk.state()?;
+        let mut state = self.tree.state()?;
         let turn = state.turn()?;
         let left = self.names.as_slice().get(self.at..).unwrap_or(&[]);
         let whole = whole_names(left, buf.len(), false);

@@ -1,6 +1,7 @@
 //! A file system in memory, whose calls are counted and may fail, and whose power may go.
 
-use crate::failing::{Plan, Turn};
+use crate::failing::{Course, SharedCourse, Turn};
+use crate::ground::Object;
 use std::alloc::{AllocError, Global};
 use std::cell::{RefCell, RefMut};
 use std::io::{self, ErrorKind};
@@ -41,33 +42,25 @@ pub enum Left {
     AllNames,
 }
 
-/// A file and its path.
+// A file or a folder, and its path.
 #[derive(Drop)]
-pub struct Found {
-    pub path: String,
-    pub node: usize,
+struct Found {
+    path: String,
+    node: usize,
 }
 
-/// What stands where, how many calls were made, and which of them fail.
+/// What stands where, and how calls go.
 #[derive(Drop)]
 pub struct State {
     alloc: Global,
     nodes: Vec<Node>,
     locked: Vec<usize>,
-    calls: u64,
-    changes: u64,
-    plan: Option<Plan>,
-    struck: bool,
-    /// The sync of a folder failed.
-    lost_folder: bool,
-    keeps_files: bool,
-    /// A name that no listing gives, as one that was made while the listing went on.
-    overlooked: Option<String>,
+    course: SharedCourse,
 }
 
 /// A file system in memory, which what is opened on it shares.
 #[derive(Drop)]
-pub struct MemoryDisk {
+pub struct MemoryTree {
     state: Rc<RefCell<State>>,
 }
 
@@ -105,31 +98,25 @@ impl Content {
     }
 }
 
-impl MemoryDisk {
-    /// A disk with one folder that is empty, the one in which all paths begin.
-    pub fn vacant(alloc: Global) -> Result<MemoryDisk, AllocError> {
+impl MemoryTree {
+    /// One folder that is empty, the one in which all paths begin.
+    pub fn vacant(alloc: Global, course: SharedCourse) -> Result<MemoryTree, AllocError> {
         let mut nodes = Vec::new(alloc);
         nodes.push(Node::Folder(Vec::new(alloc)))?;
         let state = RefCell::new(State {
             alloc,
             nodes,
             locked: Vec::new(alloc),
-            calls: 0,
-            changes: 0,
-            plan: None,
-            struck: false,
-            lost_folder: false,
-            keeps_files: false,
-            overlooked: None,
+            course,
         });
-        Ok(MemoryDisk {
+        Ok(MemoryTree {
             state: Rc::new(alloc, state)?,
         })
     }
 
-    /// The same disk once more.
-    pub fn share(&self) -> Result<MemoryDisk, AllocError> {
-        Ok(MemoryDisk {
+    /// The same file system once more.
+    pub fn share(&self) -> Result<MemoryTree, AllocError> {
+        Ok(MemoryTree {
             state: self.state.clone()?,
         })
     }
@@ -141,77 +128,21 @@ impl MemoryDisk {
 }
 
 impl State {
-    /// From here on calls fail by this plan. The count of calls begins anew.
-    pub fn follow(&mut self, plan: Option<Plan>) {
-        self.plan = plan;
-        self.calls = 0;
-        self.struck = false;
-        self.lost_folder = false;
-    }
-
-    /// From here on each removal of a file is refused, or none.
-    pub fn keep_files(&mut self, keeps: bool) {
-        self.keeps_files = keeps;
-    }
-
-    /// From here on no listing gives a name.
-    pub fn overlook(&mut self, text: &str) -> Result<(), AllocError> {
-        self.overlooked = Some(String::from_str(self.alloc, text)?);
-        Ok(())
-    }
-
-    fn is_overlooked(&self, text: &str) -> bool {
-        match &self.overlooked {
-            Some(overlooked) => overlooked.as_str() == text,
-            None => false,
-        }
-    }
-
-    /// How many calls were made since the plan began.
-    pub fn calls(&self) -> u64 {
-        self.calls
-    }
-
-    /// How often a name was given or taken, or a file was written to.
-    pub fn changes(&self) -> u64 {
-        self.changes
-    }
-
-    /// Whether calls succeed from here on, and no sync of a folder failed.
-    pub fn is_sound(&self) -> bool {
-        !self.is_dead() && !self.keeps_files && !self.lost_folder
-    }
-
-    /// Whether a call went as the plan says.
-    pub fn is_struck(&self) -> bool {
-        self.struck
-    }
-
-    /// Whether every call fails from here on.
-    pub fn is_dead(&self) -> bool {
-        match self.plan {
-            Some(plan) => plan.is_dead(self.calls),
-            None => false,
-        }
-    }
-
     /// Counts a call, and says how it goes: an error where nothing is done.
-    pub fn turn(&mut self) -> io::Result<Turn> {
-        self.calls = self.calls.saturating_add(1);
-        let Some(plan) = self.plan else {
-            return Ok(Turn::Good);
-        };
-        let turn = plan.turn(self.calls);
-        match turn {
-            Ok(Turn::Good) | Ok(Turn::Short) => {}
-            _ => self.struck = true,
-        }
-        turn
+    pub fn turn(&self) -> io::Result<Turn> {
+        self.course()?.turn()
     }
 
     /// A read or a write was cut short.
-    pub fn strike(&mut self) {
-        self.struck = true;
+    pub fn strike(&self) {
+        if let Ok(mut course) = self.course() {
+            course.strike();
+        }
+    }
+
+    /// How calls go. It is taken for as long as what is given lasts.
+    pub fn course(&self) -> io::Result<RefMut<'_, Course>> {
+        self.course.taken()
     }
 
     fn names(&self, folder: usize) -> io::Result<&[Name]> {
@@ -250,7 +181,7 @@ impl State {
 
     fn add_name(&mut self, folder: usize, text: &str, node: usize) -> io::Result<()> {
         let text = String::from_str(self.alloc, text)?;
-        self.changes = self.changes.saturating_add(1);
+        self.course()?.change();
         match self.nodes.get_mut(folder) {
             Some(Node::Folder(names)) => {
                 names.push(Name {
@@ -308,7 +239,7 @@ impl State {
 
     /// Takes a file's name.
     pub fn remove(&mut self, path: &str) -> io::Result<()> {
-        if self.keeps_files {
+        if self.course()?.keeps_files() {
             return Err(io::Error::from(ErrorKind::PermissionDenied));
         }
         let node = self.find(path)?;
@@ -316,7 +247,7 @@ impl State {
             return Err(io::Error::from(ErrorKind::IsADirectory));
         }
         let (folder, text) = self.place(path)?;
-        self.changes = self.changes.saturating_add(1);
+        self.course()?.change();
         if let Some(Node::Folder(names)) = self.nodes.get_mut(folder) {
             for name in names.iter_mut() {
                 if name.stands && name.text.as_str() == text {
@@ -342,7 +273,7 @@ impl State {
 
     /// A file's bytes from a place on become these.
     pub fn write(&mut self, node: usize, at: usize, piece: &[u8]) -> io::Result<()> {
-        self.changes = self.changes.saturating_add(1);
+        self.course()?.change();
         match self.nodes.get_mut(node) {
             Some(Node::File(content)) => Ok(content.write(self.alloc, at, piece)?),
             _ => Err(io::Error::from(ErrorKind::IsADirectory)),
@@ -351,7 +282,7 @@ impl State {
 
     /// A file has so many bytes: what it had, then zeros.
     pub fn resize(&mut self, node: usize, len: usize) -> io::Result<()> {
-        self.changes = self.changes.saturating_add(1);
+        self.course()?.change();
         match self.nodes.get_mut(node) {
             Some(Node::File(content)) => Ok(content.bytes.resize(len, 0)?),
             _ => Err(io::Error::from(ErrorKind::IsADirectory)),
@@ -372,11 +303,12 @@ impl State {
         self.locked.retain(|one| *one != node);
     }
 
-    /// The sync of a file or a folder failed. Behind that of a folder a store makes no object more.
-    pub fn lose_sync(&mut self, node: usize) {
-        if let Some(Node::Folder(_)) = self.nodes.get(node) {
-            self.lost_folder = true;
+    /// What a file or a folder has is on the disk, or not where that fails.
+    pub fn end_sync(&mut self, node: usize, synced: io::Result<()>) -> io::Result<()> {
+        if synced.is_err() && self.is_folder(node) {
+            self.course()?.lose_sync();
         }
+        synced
     }
 
     /// What a file or a folder has is on the disk.
@@ -403,8 +335,9 @@ impl State {
     /// The names in a folder, each ended by a NUL.
     pub fn list(&self, node: usize) -> io::Result<Vec<u8>> {
         let mut list = Vec::new(self.alloc);
+        let course = self.course()?;
         for name in self.names(node)? {
-            if name.stands && !self.is_overlooked(name.text.as_str()) {
+            if name.stands && course.shows(name.text.as_bytes()) {
                 list.extend_from_slice(name.text.as_bytes())?;
                 list.push(0)?;
             }
@@ -412,12 +345,12 @@ impl State {
         Ok(list)
     }
 
-    /// The files in a folder and within it.
-    pub fn files_in(&self, folder: &str) -> io::Result<Vec<Found>> {
+    /// The files in a folder and within it, by their paths from there on.
+    pub fn objects_in(&self, folder: &str) -> io::Result<Vec<Object>> {
         let mut found = Vec::new(self.alloc);
         let mut folders = Vec::new(self.alloc);
         folders.push(Found {
-            path: String::from_str(self.alloc, folder)?,
+            path: String::new(self.alloc),
             node: self.find(folder)?,
         })?;
         for _ in 0..self.nodes.len() {
@@ -434,30 +367,31 @@ impl State {
         &self,
         folder: &Found,
         folders: &mut Vec<Found>,
-        files: &mut Vec<Found>,
+        files: &mut Vec<Object>,
     ) -> io::Result<()> {
         for name in self.names(folder.node)? {
             if name.stands {
-                let within = self.within(folder, name)?;
-                if self.is_folder(name.node) {
-                    folders.push(within)?;
+                let path = self.within(folder, name)?;
+                let node = name.node;
+                if self.is_folder(node) {
+                    folders.push(Found { path, node })?;
                 } else {
-                    files.push(within)?;
+                    let bytes = Vec::from_slice(self.alloc, self.bytes(node))?;
+                    files.push(Object { path, bytes })?;
                 }
             }
         }
         Ok(())
     }
 
-    // What a name in a folder names.
-    fn within(&self, folder: &Found, name: &Name) -> Result<Found, AllocError> {
+    // The path of a name in a folder.
+    fn within(&self, folder: &Found, name: &Name) -> Result<String, AllocError> {
         let mut path = String::from_str(self.alloc, folder.path.as_str())?;
-        path.push('/')?;
+        if !path.is_empty() {
+            path.push('/')?;
+        }
         path.push_str(name.text.as_str())?;
-        Ok(Found {
-            path,
-            node: name.node,
-        })
+        Ok(path)
     }
 }
 
