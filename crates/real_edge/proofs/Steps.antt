@@ -124,21 +124,27 @@ turns_kept name Turned before after h c left = let d = h c left in (d.0, d.1, re
 pub turns_behind : (name : List ℕ) (Turned Now : Option (List ℕ) → Type 0) (before mid after : Files → Type 0) → ((x : Option (List ℕ)) → is_object name ≡ true → Now x → Turned x) → ShowsNoMore before mid → ShowsTurn name Now mid after → ShowsTurn name Turned before after
 turns_behind name Turned Now before mid after so k h c left =
     let y = h c left in
-    let x = k y.0 y.1 in
-    (x.0, x.1, record {
-      others = λ q isq ne. y.2.others q isq ne ∙ x.2 q isq;
-      here = λ is. elim (y.2.here is) [ inl e ↦ inl (e ∙ x.2 name is) | inr t ↦ inr (so (finmap.get c name) is t) ];
-    })
+    let x = k y.0 y.1 in (
+      x.0,
+      x.1,
+      record {
+        others = λ q isq ne. y.2.others q isq ne ∙ x.2 q isq;
+        here = λ is. elim (y.2.here is) [ inl e ↦ inl (e ∙ x.2 name is) | inr t ↦ inr (so (finmap.get c name) is t) ];
+      },
+    )
 
 -- before it
 pub turns_still : (name : List ℕ) (Turned : Option (List ℕ) → Type 0) (before mid after : Files → Type 0) → ShowsTurn name Turned before mid → ShowsNoMore mid after → ShowsTurn name Turned before after
 turns_still name Turned before mid after h k c left =
     let x = k c left in
-    let y = h x.0 x.1 in
-    (y.0, y.1, record {
-      others = λ q isq ne. x.2 q isq ∙ y.2.others q isq ne;
-      here = λ is. elim (y.2.here is) [ inl e ↦ inl (x.2 name is ∙ e) | inr t ↦ inr (subst Turned (sym (x.2 name is)) t) ];
-    })
+    let y = h x.0 x.1 in (
+      y.0,
+      y.1,
+      record {
+        others = λ q isq ne. x.2 q isq ∙ y.2.others q isq ne;
+        here = λ is. elim (y.2.here is) [ inl e ↦ inl (x.2 name is ∙ e) | inr t ↦ inr (subst Turned (sym (x.2 name is)) t) ];
+      },
+    )
 
 -- what stands under a name was put on the disk
 pub sure_at : (name : List ℕ) (Turned : Option (List ℕ) → Type 0) (before mid after : Files → Type 0) (o n : Files) → ShowsTurn name Turned before mid → ((q : List ℕ) → is_object q ≡ true → q ≢ name → finmap.get n q ≡ finmap.get o q)
@@ -193,11 +199,14 @@ module _ (beside name content : List ℕ) (before mid after : Files → Type 0) 
   turns_came : finmap.get m name ≡ None → MayTurn name (Some content) mid after → ShowsTurn name (Comes name content o) before after
   turns_came none turn c left =
       let d = turn c left in
-      let x = h.keeps.left d.0 d.1 in
-      (x.0, x.1, record {
-        others = λ q isq ne. d.2.others q ne ∙ x.2 q isq;
-        here = λ i. elim d.2.here [ inl same ↦ inl (same ∙ x.2 name is) | inr new ↦ inr (sym (h.keeps.same name is) ∙ none, new) ];
-      })
+      let x = h.keeps.left d.0 d.1 in (
+        x.0,
+        x.1,
+        record {
+          others = λ q isq ne. d.2.others q ne ∙ x.2 q isq;
+          here = λ i. elim d.2.here [ inl same ↦ inl (same ∙ x.2 name is) | inr new ↦ inr (sym (h.keeps.same name is) ∙ none, new) ];
+        },
+      )
 
   pub linked : (r : Result (Unit {0}) MakeError) → Links beside name r mid after m n → Linked name content r before after o n
   linked (Ok done) l =

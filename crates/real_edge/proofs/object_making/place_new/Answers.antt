@@ -37,9 +37,9 @@ returns g c =
     let content = c.args.content.now in
     let r = both_of c.link-linked.result c.remove-removed.result in
     let linked = where_both (told a) (told b) (told d) (told e) c.in-Ok.beside.items name content c.link-linked.result c.remove-removed.result (left a) (left b) (left d) (left e)
-        c.requires.object c.in-Ok.ensures.name (g.met.D.Disk.seen_may_stay a) c.in-Ok.ensures.made
-        (rw c.as_slice.ensures.value at c.link-linked.ensures.step) (rw c.as_slice-2.ensures.value at c.remove-removed.ensures.step) in
+    c.requires.object c.in-Ok.ensures.name (g.met.D.Disk.seen_may_stay a) c.in-Ok.ensures.made
+    (rw c.as_slice.ensures.value at c.link-linked.ensures.step) (rw c.as_slice-2.ensures.value at c.remove-removed.ensures.step) in
     let ends = where_ended (told a) (told e) (told s) name content r c.sync-synced.result (left a) (left e) (left s) (way e) (way s)
-        (c.remove-removed.ensures.ways name (c.link-linked.ensures.ways name (c.make_beside.ensures.ways name c.requires.way)))
-        linked c.sync-synced.ensures.leaves c.sync-synced.ensures.settled in
+    (c.remove-removed.ensures.ways name (c.link-linked.ensures.ways name (c.make_beside.ensures.ways name c.requires.way)))
+    linked c.sync-synced.ensures.leaves c.sync-synced.ensures.settled in
     rw (c.made.ensures, c.both.ensures, c.is_err.ensures.value) ends
