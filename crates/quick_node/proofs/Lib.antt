@@ -62,3 +62,4 @@ mod Finding
 mod Quiet
 pub mod RunClause
 pub mod RunFound
+mod BehindCrash

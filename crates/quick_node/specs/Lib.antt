@@ -19,3 +19,4 @@ pub mod Opening
 pub mod Runs
 pub mod Saying
 pub mod Contract
+pub mod AfterCrash

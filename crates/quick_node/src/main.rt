@@ -3,6 +3,7 @@
 //! stands for one that is empty, and kept in memory as long as the program runs.
 #![tactic(auto)]
 
+pub mod after_crash;
 mod creating;
 mod error_line;
 pub mod laws;
