@@ -182,8 +182,11 @@ def main():
     for one in reports:
         one.start()
     killed, moment, collects = 0, AFTER_TODAY, collections.Counter()
-    for _ in range(asked.kills if asked.run else 0):
-        killed += ran(path, index, killed_behind=chance.uniform(0.01, 0.3)) is None
+    while asked.run and killed < asked.kills:
+        # One that ends before it is killed has nothing left to do: then the records were too few.
+        if ran(path, index, killed_behind=chance.uniform(0.01, 0.3)) is not None:
+            raise SystemExit(f"all is indexed behind {killed} kills: give more records")
+        killed += 1
     for _ in range(0 if asked.run else asked.kills):
         drive = poltyqen.Drive(path, index.store, index.logs)
         timer = threading.Timer(chance.uniform(0.01, 0.3), drive.process.kill)
