@@ -73,6 +73,11 @@ def fresh(path, folder):
     measure.made_index(path, folder, measure.CONFIG % measure.DOCS_IN_A_SPLIT)
 
 
+def seconds_of(path, folder, asked, repeat):
+    """How long it takes to answer these requests over the whole index."""
+    return statistics.median(Ran(path, folder, 1, asked).seconds for _ in range(repeat))
+
+
 def main():
     given = argparse.ArgumentParser(description=__doc__, formatter_class=argparse.RawDescriptionHelpFormatter)
     given.add_argument("program")
@@ -107,8 +112,7 @@ def main():
         of = lambda field: statistics.median(getattr(it, field) for it in runs)
         first = first or of("seconds")
         print(f"| {indexers} | {of('seconds'):.2f} | {of('seconds') / first:.2f} | {of('processor'):.2f} | {of('meanwhile'):.0f} | {of('peak') / 1e6:.0f} |", flush=True)
-    nothing = Ran(path, folder, 1, []).seconds
-    alone = (Ran(path, folder, 1, counts(words, 10 * asked.counts)).seconds - nothing) * SEARCHERS / (10 * asked.counts)
+    alone = (seconds_of(path, folder, counts(words, asked.many), asked.repeat) - seconds_of(path, folder, [], asked.repeat)) * SEARCHERS / asked.many
     fresh(path, folder)
     beside = Ran(path, folder, asked.indexers[-1], counts(words, asked.many))
     taken = beside.published * SEARCHERS / max(1, beside.meanwhile)
