@@ -54,13 +54,13 @@ named_faults root raws =
     tagged_faults root raws ++ reference_faults purposes.Default raws defaults_path 0 (items_in (search_list root))
 
 -- each of the five is empty where the whole is
-abbrev NothingWrong : Data → List RawField → Type 0
+abbrev pub NothingWrong : Data → List RawField → Type 0
 NothingWrong root raws =
     (duplicate_faults [] raws ≡ []) × (count_faults (field_count raws) ≡ []) × (timestamp_faults (has_retention root) (timestamp_path root) raws ≡ [])
     × (reference_faults purposes.Tag raws tags_path 0 (items_in (in_mapping (codes "tag_fields") root)) ≡ [])
     × (reference_faults purposes.Default raws defaults_path 0 (items_in (search_list root)) ≡ [])
 
-nothing-wrong : (root : Data) (raws : List RawField) → whole_faults root raws ≡ [] → NothingWrong root raws
+pub nothing-wrong : (root : Data) (raws : List RawField) → whole_faults root raws ≡ [] → NothingWrong root raws
 nothing-wrong root raws e =
     let named = both-empty (named_faults root raws) (unbuilt_faults (has_retention root)) e in
     let tagged = both-empty (tagged_faults root raws) (reference_faults purposes.Default raws defaults_path 0 (items_in (search_list root))) named.0 in
@@ -71,7 +71,7 @@ nothing-wrong root raws e =
     (first.0, first.1, counted.1, timed.1, tagged.1)
 
 -- the schema of a table's configuration
-abbrev tags_of : Data → Items
+abbrev pub tags_of : Data → Items
 tags_of root = items_in (in_mapping (codes "tag_fields") root)
 
 schema-fits : (root : Data) → NothingWrong root (all_raws root) → IsSchema (schema_of root (all_raws root))

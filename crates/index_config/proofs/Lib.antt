@@ -13,3 +13,4 @@ pub mod Unmapped
 pub mod Ranges
 pub mod Asked
 pub mod References
+pub mod Retained

@@ -1,6 +1,6 @@
 // Laws of accepted configurations, over the definitions alone.
 
-ghost use Rattle.std.specs.Prelude.{◌≡◌, ℕ, List, Ok, length};
+ghost use Rattle.std.specs.Prelude.{◌≡◌, ℕ, List, Ok, IsSome, length};
 ghost use Rattle.doc_value.specs.Documents.{IsSchema, AreNamed, AreNumbers};
 ghost use Rattle.index_config.specs.Accepted.{AreOutside, AreTags, AreTextFields, BeginPlain, HasRanges, HoldsUnmapped};
 ghost use Rattle.index_config.specs.Answer.{config_answer};
@@ -29,6 +29,8 @@ pub fn accepted_laws()
     ensures texts { (text : List ℕ) (config : IndexConfig) → config_answer text ≡ Ok config → AreTextFields config.schema.fields config.default_fields }
     // Exactly in mode dynamic a field holds what is not mapped, and its path is `_dynamic`.
     ensures dynamic { (text : List ℕ) (config : IndexConfig) → config_answer text ≡ Ok config → HoldsUnmapped config.mode config.schema }
+    // Where it lets documents go by their times, it has a timestamp field.
+    ensures retained { (text : List ℕ) (config : IndexConfig) → config_answer text ≡ Ok config → IsSome config.retention → IsSome config.timestamp_field }
     // In mode dynamic no path lies within that of this field.
     ensures outside { (text : List ℕ) (config : IndexConfig) → config_answer text ≡ Ok config → config.mode ≡ modes.Dynamic → AreOutside config.schema.fields }
 {}

@@ -7,7 +7,7 @@ use Rattle.std.proofs.lemmas.List.{length-append, append-nil, drop-set}
 use Rattle.std.proofs.lemmas.List.Elements.{All-from_recursion}
 use Rattle.std.proofs.Math.Nat.{div-div-eq-div-mul, div-le_self, pow-suc}
 use Rattle.object_store.specs.Key.{is_key_byte, IsKey}
-use Rattle.meta_journal.specs.Places.{digits, meta_prefix, split_prefix, meta_key, split_key}
+use Rattle.meta_journal.specs.Places.{digits, meta_prefix, split_prefix, snap_prefix, meta_key, split_key, snap_key}
 
 digit_is : (d : ℕ) → d < 10 → is_key_byte (d + 48) ≡ true
 digit_is d lt = grind (arith, nat_tests)
@@ -39,6 +39,14 @@ split_key_is n = record {
   each = All-from_recursion IsKeyByte (split_prefix ++ digits 20 n) (refl, (refl, (refl, (refl, (refl, (refl, (refl, digits_are 20 n)))))));
 }
 
+pub snap_key_is : (n : ℕ) → IsKey (snap_key n)
+unfolding snap_key
+snap_key_is n = record {
+  some = omega (arith, length-append snap_prefix (digits 20 n), length-digits 20 n);
+  short = omega (arith, length-append snap_prefix (digits 20 n), length-digits 20 n);
+  each = All-from_recursion IsKeyByte (snap_prefix ++ digits 20 n) (refl, (refl, (refl, (refl, (refl, digits_are 20 n)))));
+}
+
 pub meta_text : (text : List ℕ) (n : ℕ) → text ≡ digits 20 n → meta_prefix ++ (text ++ []) ≡ meta_key n
 unfolding meta_key
 meta_text text n e = ap (λ (l : List ℕ). meta_prefix ++ l) (append-nil text ∙ e)
@@ -46,6 +54,10 @@ meta_text text n e = ap (λ (l : List ℕ). meta_prefix ++ l) (append-nil text �
 pub split_text : (text : List ℕ) (n : ℕ) → text ≡ digits 20 n → split_prefix ++ (text ++ []) ≡ split_key n
 unfolding split_key
 split_text text n e = ap (λ (l : List ℕ). split_prefix ++ l) (append-nil text ∙ e)
+
+pub snap_text : (text : List ℕ) (n : ℕ) → text ≡ digits 20 n → snap_prefix ++ (text ++ []) ≡ snap_key n
+unfolding snap_key
+snap_text text n e = ap (λ (l : List ℕ). snap_prefix ++ l) (append-nil text ∙ e)
 
 pub one_more : (text : List ℕ) (at n rest : ℕ) → 0 < at → at ≤ 20 → at ≤ length text → rest ≡ n / 10 ^ (20 - at) → drop at text ≡ digits (20 - at) n → drop (at - 1) (set text (at - 1) (rest % 10 + 48)) ≡ digits (20 - (at - 1)) n
 one_more text at n rest pos le long rest_is back =
@@ -100,3 +112,8 @@ next_digit text i n number lt is before = record {
 pub split_digits : (key : List ℕ) (n : ℕ) → key ≡ split_key n → (drop 7 key ≡ digits (length (drop 7 key)) n) × (length (drop 7 key) ≡ 20)
 unfolding split_key
 split_digits key n is = subst (λ (k : List ℕ). (drop 7 k ≡ digits (length (drop 7 k)) n) × (length (drop 7 k) ≡ 20)) (sym is) (refl, refl)
+
+-- the end of a snapshot's key
+pub snap_digits : (key : List ℕ) (n : ℕ) → key ≡ snap_key n → (drop 5 key ≡ digits (length (drop 5 key)) n) × (length (drop 5 key) ≡ 20)
+unfolding snap_key
+snap_digits key n is = subst (λ (k : List ℕ). (drop 5 k ≡ digits (length (drop 5 k)) n) × (length (drop 5 k) ≡ 20)) (sym is) (refl, refl)

@@ -19,11 +19,11 @@ use Rattle.meta_journal.specs.Reading.{◌>>=◌, Reads, both, number_at, string
 use Rattle.meta_journal.proofs.Exact.{bind_ok, ok_is, guard_ok, guard_else_ok, IsExact, Takes, behind, number_exact, string_exact, utf8_exact, both_exact, made_takes, made_again, where_exact}
 use Rattle.meta_journal.proofs.FieldLaws.{plain_exact, part_exact, facts_exact, range_exact, row_numbers_exact}
 
-not_false : (b : Bool) → not b ≡ false → b ≡ true
+pub not_false : (b : Bool) → not b ≡ false → b ≡ true
 not_false true e = refl
 not_false false e = absurd cc
 
-one_false : (a b : Bool) → (not a && not b) ≡ false → (a ≡ true) ⊎ (b ≡ true)
+pub one_false : (a b : Bool) → (not a && not b) ≡ false → (a ≡ true) ⊎ (b ≡ true)
 one_false true b e = inl refl
 one_false false b e = inr (not_false b e)
 
@@ -151,7 +151,7 @@ head_again version k rest (inl two) = head_by version (number_of k) rest (inr tw
 head_again version k rest (inr one) = head_by version (number_of k) rest (inl one.0) ∙ kind_again version k (inr one.1)
 
 module _ (bytes : List ℕ) where
-  moment_exact : IsExact bytes (moment_at bytes) varint (λ n. IsNumber n × (n < 2 ^ 62))
+  pub moment_exact : IsExact bytes (moment_at bytes) varint (λ n. IsNumber n × (n < 2 ^ 62))
   unfolding moment_at
   moment_exact = where_exact bytes (λ n. nat_lt n (2 ^ 62)) TooLarge (number_at bytes) varint IsNumber (λ n. n < 2 ^ 62) (λ n h. ltb-true n (2 ^ 62) h) (λ n h. lt-ltb n (2 ^ 62) h) (number_exact bytes)
 

@@ -51,15 +51,15 @@ pub any_chain : {A : Type 0} (done xs : List A) → Chain IsAny done xs
 any_chain done [] = tt
 any_chain done (x ∷ xs) = (tt, any_chain (done ++ x ∷ []) xs)
 
-last_is : {A : Type 0} (Below : A → A → Type 0) (test : A → Bool) (x : A) (last : Option A) → ((y : A) → test y ≡ true → Below y x) → is_last test last ≡ true → IsBehind Below last x
+pub last_is : {A : Type 0} (Below : A → A → Type 0) (test : A → Bool) (x : A) (last : Option A) → ((y : A) → test y ≡ true → Below y x) → is_last test last ≡ true → IsBehind Below last x
 last_is Below test x None is h = tt
 last_is Below test x (Some y) is h = is y h
 
-last_passes : {A : Type 0} (Below : A → A → Type 0) (test : A → Bool) (x : A) (last : Option A) → ((y : A) → Below y x → test y ≡ true) → IsBehind Below last x → is_last test last ≡ true
+pub last_passes : {A : Type 0} (Below : A → A → Type 0) (test : A → Bool) (x : A) (last : Option A) → ((y : A) → Below y x → test y ≡ true) → IsBehind Below last x → is_last test last ≡ true
 last_passes Below test x None is h = refl
 last_passes Below test x (Some y) is h = is y h
 
-is_less : (r : Ordering) → is_lt r ≡ true → r ≡ Less
+pub is_less : (r : Ordering) → is_lt r ≡ true → r ≡ Less
 is_less Less h = refl
 is_less Equal h = absurd cc
 is_less Greater h = absurd cc
@@ -80,7 +80,7 @@ module _ (bytes : List ℕ) where
       (exact_same bytes (number_at bytes) varint IsNumber (λ n. IsNumber n × Unit {0}) (λ n h. (h, tt)) (λ n h. h.0) (number_exact bytes)))
 
   -- a count, and so many members that rise
-  rising_exact : {A : Type 0} (step : List A → Reader A) (spell : A → List ℕ) (Can : A → Type 0) (Below : A → A → Type 0) → ((done : List A) → IsExact bytes (step done) spell (λ a. Can a × IsAbove Below done a))
+  pub rising_exact : {A : Type 0} (step : List A → Reader A) (spell : A → List ℕ) (Can : A → Type 0) (Below : A → A → Type 0) → ((done : List A) → IsExact bytes (step done) spell (λ a. Can a × IsAbove Below done a))
       → IsExact bytes (counted_at bytes step) (counted spell) (λ xs. AreAll Can xs × Rises Below xs)
   rising_exact step spell Can Below p =
       exact_same bytes (counted_at bytes step) (counted spell) (λ xs. AreAll Can xs × Chain (IsAbove Below) [] xs × Unit {0}) (λ xs. AreAll Can xs × Rises Below xs)
@@ -88,7 +88,7 @@ module _ (bytes : List ℕ) where
       (counted_exact bytes step spell Can (IsAbove Below) p (number_at bytes) (λ n. Unit {0})
       (exact_same bytes (number_at bytes) varint IsNumber (λ n. IsNumber n × Unit {0}) (λ n h. (h, tt)) (λ n h. h.0) (number_exact bytes)))
 
-  partition_exact : IsExact bytes (partition_at bytes) byte_string IsPartition
+  pub partition_exact : IsExact bytes (partition_at bytes) byte_string IsPartition
   unfolding partition_at
   partition_exact = exact_same bytes (where_is is_partition NotText (utf8_at bytes)) byte_string (λ name. IsText name × IsPartition name) IsPartition (λ name h. h.1) (λ name h. (name_is_text name h, h))
       (where_exact bytes is_partition NotText (utf8_at bytes) byte_string IsText IsPartition partition_is partition_passes (utf8_exact bytes))

@@ -12,3 +12,6 @@ pub mod KeyOrder
 pub mod Listing
 pub mod Pages
 pub mod Loads
+pub mod SnapshotFields
+pub mod SnapshotLaws
+pub mod Worked

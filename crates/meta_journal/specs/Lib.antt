@@ -3,3 +3,5 @@ pub mod Places
 pub mod Reading
 pub mod Journal
 pub mod Loading
+pub mod Snapshots
+pub mod SnapshotReading

@@ -17,6 +17,9 @@ meta_prefix = codes "meta/"
 abbrev pub split_prefix : List ℕ
 split_prefix = codes "splits/"
 
+abbrev pub snap_prefix : List ℕ
+snap_prefix = codes "snap/"
+
 -- `meta/` and the number in 20 digits
 unfoldable pub meta_key : ℕ → List ℕ
 meta_key n = meta_prefix ++ digits 20 n
@@ -24,6 +27,10 @@ meta_key n = meta_prefix ++ digits 20 n
 -- `splits/` and the number in 20 digits
 unfoldable pub split_key : ℕ → List ℕ
 split_key n = split_prefix ++ digits 20 n
+
+-- `snap/` and the number in 20 digits
+unfoldable pub snap_key : ℕ → List ℕ
+snap_key n = snap_prefix ++ digits 20 n
 
 -- the bytes of the object with a number
 abbrev pub numbered : State → ℕ → Option (List ℕ)

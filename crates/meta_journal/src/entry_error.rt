@@ -1,21 +1,21 @@
-//! Why bytes are no entry.
+//! Why bytes are no entry, or no snapshot.
 
 use byte_fields::FieldError;
 use std::alloc::{AllocError, AllocFailed};
 use thiserror::Error;
 
-/// Why bytes are no entry: the first fault from the left.
+/// Why bytes are no entry, or no parts of a state: the first fault from the left.
 #[derive(Debug, Drop, Error)]
 pub enum EntryError {
     #[error("no memory for the entry")]
     Memory(AllocError),
-    /// The bytes don't begin with `QWJ`.
+    /// The bytes don't begin with `QWJ`, or those of a snapshot with `QWN`.
     #[error("the bytes begin otherwise than an entry")]
     BadMagic,
     /// The format is neither 1 nor 2.
     #[error("format {number} is not known")]
     BadVersion { number: u8 },
-    /// The format has no entry of this kind.
+    /// The format has no entry of this kind, or a row no such state.
     #[error("kind {number} is not known")]
     BadKind { number: u8 },
     /// A field has a fault, which says its place.

@@ -15,7 +15,7 @@ use split_states::{Numbers, RowFacts, Times};
 use std::alloc::Global;
 
 /// Members of a list, each read at a place of the bytes, behind those before it.
-trait Member {
+pub trait Member {
     type Item: Drop;
 
     ghost step: { List ℕ → List Self.Item → Reader Self.Item };
@@ -32,7 +32,7 @@ trait Member {
 }
 
 // So many members.
-fn members_from<M: Member>(
+pub fn members_from<M: Member>(
     alloc: Global,
     bytes: &[u8],
     start: usize,
@@ -57,7 +57,7 @@ fn members_from<M: Member>(
 }
 
 #[tactic(auto, unfolding(crate::specs::Reading::partition_at))]
-fn take_partition(bytes: &[u8], at: usize) -> Result<(Partition, usize), EntryError>
+pub fn take_partition(bytes: &[u8], at: usize) -> Result<(Partition, usize), EntryError>
     requires { at ≤ length bytes.now }
     ensures exact { Reads result (partition_at bytes.now at) }
     ensures within { IfOk result (λ x. x.1 ≤ length bytes.now) }
@@ -80,7 +80,7 @@ pub fn take_delta(alloc: Global, bytes: &[u8], at: usize) -> Result<(Delta, usiz
     Ok((Delta::from_vec(parts.into_vec()), next))
 }
 
-fn take_number(bytes: &[u8], at: usize) -> Result<(u64, usize), EntryError>
+pub fn take_number(bytes: &[u8], at: usize) -> Result<(u64, usize), EntryError>
     requires { at ≤ length bytes.now }
     ensures exact { Reads result (number_at bytes.now at) }
     ensures within { IfOk result (λ x. x.1 ≤ length bytes.now) }

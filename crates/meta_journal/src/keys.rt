@@ -1,7 +1,7 @@
 //! The keys of numbered objects.
 
 ghost use Rattle.std.specs.Prelude.{◌≡◌, ◌<◌, ◌^◌, ℕ, length, IfSome, Some};
-ghost use Rattle.meta_journal.specs.Places.{digits, meta_key, meta_prefix, split_key, split_prefix};
+ghost use Rattle.meta_journal.specs.Places.{digits, meta_key, meta_prefix, split_key, split_prefix, snap_key, snap_prefix};
 
 use object_store::Key;
 
@@ -38,6 +38,15 @@ pub fn split_key(number: u64) -> Key
 {
     let mut text = *b"splits/00000000000000000000";
     text[7..].copy_from_slice(&twenty_digits(number));
+    Key::of(&text)
+}
+
+/// The key of the snapshot behind so many entries: `snap/` and their number in 20 digits.
+pub fn snap_key(revision: u64) -> Key
+    ensures { result ≡ snap_key revision }
+{
+    let mut text = *b"snap/00000000000000000000";
+    text[5..].copy_from_slice(&twenty_digits(revision));
     Key::of(&text)
 }
 
@@ -78,4 +87,24 @@ pub fn split_prefix() -> Key
     ensures { result ≡ split_prefix }
 {
     Key::of(b"splits/")
+}
+
+/// The number of a snapshot's key: none where no snapshot with a number below 2 ^ 64 has the key.
+pub fn snap_number(key: &Key) -> Option<u64>
+    ensures only { IfSome result (λ n. key.now ≡ snap_key n) }
+    ensures all { (n : ℕ) → n < 2 ^ 64 → key.now ≡ snap_key n → result ≡ Some n }
+{
+    let number = number_of(key.as_bytes().get(5..)?)?;
+    if snap_key(number).is_same(key) {
+        Some(number)
+    } else {
+        None
+    }
+}
+
+/// What the keys of snapshots begin with: `snap/`.
+pub fn snap_prefix() -> Key
+    ensures { result ≡ snap_prefix }
+{
+    Key::of(b"snap/")
 }

@@ -75,7 +75,7 @@ pub(crate) fn kind_at(bytes: &[u8]) -> Result<Kind, EntryError>
 }
 
 #[tactic(auto, unfolding(crate::specs::Reading::moment_at))]
-fn take_moment(bytes: &[u8], at: usize) -> Result<(u64, usize), EntryError>
+pub(crate) fn take_moment(bytes: &[u8], at: usize) -> Result<(u64, usize), EntryError>
     requires { at ≤ length bytes.now }
     ensures exact { Reads result (moment_at bytes.now at) }
     ensures within { IfOk result (λ x. x.1 ≤ length bytes.now) }

@@ -39,7 +39,7 @@ fn put_numbers(out: &mut Vec<u8>, numbers: &[u64]) -> Result<(), AllocError>
     Ok(())
 }
 
-fn put_texts(out: &mut Vec<u8>, texts: &[Text]) -> Result<(), AllocError>
+pub(crate) fn put_texts(out: &mut Vec<u8>, texts: &[Text]) -> Result<(), AllocError>
     ensures { OnOk result (out.new.items ≡ out.old.items ++ counted byte_string texts.now) }
 {
     put_varint(out, texts.len() as u64)?;
@@ -107,14 +107,14 @@ fn put_time(out: &mut Vec<u8>, time: Option<i64>) -> Result<(), AllocError>
     }
 }
 
-fn put_range(out: &mut Vec<u8>, range: &TimeRange) -> Result<(), AllocError>
+pub(crate) fn put_range(out: &mut Vec<u8>, range: &TimeRange) -> Result<(), AllocError>
     ensures { OnOk result (out.new.items ≡ out.old.items ++ range_spelled range.now) }
 {
     put_time(out, range.start)?;
     put_time(out, range.end)
 }
 
-fn put_facts(out: &mut Vec<u8>, facts: &RowFacts) -> Result<(), AllocError>
+pub(crate) fn put_facts(out: &mut Vec<u8>, facts: &RowFacts) -> Result<(), AllocError>
     ensures { OnOk result (out.new.items ≡ out.old.items ++ facts_spelled facts.now) }
 {
     put_varint(out, facts.docs)?;

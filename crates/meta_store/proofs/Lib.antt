@@ -25,3 +25,13 @@ pub mod GivenUp
 pub mod Staged
 pub mod Within
 pub mod Apart
+pub mod Parted
+pub mod Bounded
+pub mod Restorable
+pub mod Evenness
+pub mod Walks
+pub mod TaskFields
+pub mod Counts
+pub mod Remade
+pub mod Grouped
+pub mod Spellable

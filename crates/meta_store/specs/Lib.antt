@@ -15,3 +15,8 @@ pub mod Words
 pub mod Contents
 pub mod Left
 pub mod Planning
+pub mod Texts
+pub mod Parts
+pub mod Restoring
+pub mod Uneven
+pub mod Shaped

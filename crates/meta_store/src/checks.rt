@@ -12,7 +12,7 @@ use source_checkpoint::StaleDelta;
 use split_states::{Rows, StateRefusal, may_mark, may_remove, may_retire};
 use std::mem;
 
-const MOST_ROWS: usize = 100_000;
+pub const MOST_ROWS: usize = 100_000;
 
 const MOST_SPANS: u128 = 1_000_000;
 

@@ -1,6 +1,6 @@
 //! What holds of every legal history. Each law is the contract of a function that does nothing.
 
-ghost use Rattle.std.specs.Prelude.{ℕ, Bool, true, List, None, Some, IsOk, ◌↔◌, take, map, IsPermutation, ◌≡◌, ◌≤◌, ◌++◌, ◌∷◌, []};
+ghost use Rattle.std.specs.Prelude.{ℕ, Bool, true, List, None, Some, IsOk, ◌↔◌, take, map, length, IsPermutation, ◌≡◌, ◌<◌, ◌≤◌, ◌++◌, ◌∷◌, []};
 ghost use Rattle.std.specs.List.{AllByRecursion};
 ghost use Rattle.meta_journal.specs.declared.entry.Entry.{Entry};
 ghost use Rattle.delete_tasks.specs.Removes.{DeleteTask};
@@ -20,6 +20,10 @@ ghost use Rattle.meta_store.specs.Laws.{Once, IsCounted, IsNumbered, IsFormed};
 ghost use Rattle.meta_store.specs.Contents.{Meaning, Placed, visible, contents, published_contents, taken_out, IsTakenFrom};
 ghost use Rattle.meta_store.specs.Left.{left_over, LieApart, HasMarks};
 ghost use Rattle.meta_store.specs.Planning.{config_fits};
+ghost use Rattle.meta_store.specs.Parts.{parts_of, state_from};
+ghost use Rattle.meta_store.specs.Restoring.{CanRestore};
+ghost use Rattle.meta_journal.specs.Spelling.{CanSpell};
+ghost use Rattle.meta_journal.specs.Snapshots.{CanSpellParts};
 ghost use Rattle.index_config.specs.Accepted.{HasRanges};
 ghost use Rattle.index_config.specs.declared.config.IndexConfig.{IndexConfig};
 ghost use Rattle.meta_store.specs.Numbers.{is_shown, IsAllowed, IsGivenUp, HasStaged, IsPlaced};
@@ -141,4 +145,22 @@ pub fn plans_stay()
 /// planned.
 pub fn ranges_fit()
     ensures { (config : IndexConfig) → HasRanges config → config_fits config ≡ true }
+{}
+
+/// The state of a legal history that has an entry is made anew from its parts: it is the fold over the whole journal.
+pub fn restored()
+    ensures { (reads : Reads) (entries : List Entry) → Legal reads (history entries) → 0 < length entries →
+        state_from reads (parts_of (state_of reads (history entries))) ≡ state_of reads (history entries) }
+{}
+
+/// The parts of that state meet the nine conditions of a restore, up to 10,000,000 entries.
+pub fn restorable()
+    ensures { (reads : Reads) (entries : List Entry) → Legal reads (history entries) → 0 < length entries → length entries ≤ 10000000 →
+        CanRestore reads (parts_of (state_of reads (history entries))) }
+{}
+
+/// They can be spelled, where each entry can.
+pub fn spelled()
+    ensures { (reads : Reads) (entries : List Entry) → Legal reads (history entries) → AllByRecursion CanSpell entries → 0 < length entries → length entries ≤ 10000000 →
+        CanSpellParts (parts_of (state_of reads (history entries))) }
 {}

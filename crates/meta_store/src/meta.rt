@@ -40,18 +40,18 @@ use std::mem;
 /// The state of an index after the entries of its journal, with the room that was made for the next one.
 #[derive(Drop)]
 pub struct Meta {
-    alloc: Global,
-    revision: u64,
-    moment: u64,
-    config: Option<Config>,
-    last_number: u64,
-    tasks: Tasks,
-    asks: Vec<TaskAsk>,
-    span_count: usize,
-    checkpoints: Ledger,
-    rows: Rows,
-    retired: Vec<Part>,
-    spare: Vec<Span>,
+    pub(crate) alloc: Global,
+    pub(crate) revision: u64,
+    pub(crate) moment: u64,
+    pub(crate) config: Option<Config>,
+    pub(crate) last_number: u64,
+    pub(crate) tasks: Tasks,
+    pub(crate) asks: Vec<TaskAsk>,
+    pub(crate) span_count: usize,
+    pub(crate) checkpoints: Ledger,
+    pub(crate) rows: Rows,
+    pub(crate) retired: Vec<Part>,
+    pub(crate) spare: Vec<Span>,
 }
 
 impl Model for Meta {
@@ -220,6 +220,13 @@ impl Meta {
         ensures { result.now ≡ self.now.state.asks }
     {
         self.asks.as_slice()
+    }
+
+    /// The retired ranges, in order.
+    pub fn retired(&self) -> &[Part]
+        ensures { result.now ≡ self.now.state.retired }
+    {
+        self.retired.as_slice()
     }
 
     /// Whether an entry may come next, by what the readers say of it: the readings, to be taken in with it, or its first

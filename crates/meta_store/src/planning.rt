@@ -104,7 +104,7 @@ fn planned_row(row: &Row) -> PlanRow
     }
 }
 
-fn copied_spans(alloc: Global, spans: &[Span]) -> Result<Spans, AllocError>
+pub(crate) fn copied_spans(alloc: Global, spans: &[Span]) -> Result<Spans, AllocError>
     ensures { IfOk result (λ copied. copied ≡ spans.now) }
 {
     let mut copied = Spans::vacant(alloc);

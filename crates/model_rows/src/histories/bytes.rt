@@ -1,16 +1,15 @@
-//! The bytes of entries.
+//! The bytes of entries and of snapshots.
 
+ghost use Rattle.meta_journal.specs.Snapshots.{CanSpellParts};
 ghost use Rattle.meta_journal.specs.Spelling.{CanSpell};
 
-use meta_journal::{Entry, decode_entry, encode_entry};
+use meta_journal::{Entry, StateParts, decode_entry, decode_state, encode_entry, encode_state};
+use meta_store::Meta;
 use std::alloc::{AllocError, Global};
 
 /// The bytes of an entry that was read from these, each in two digits, or why they are none.
 pub fn spelled_again(alloc: Global, digits: &str) -> Result<String, AllocError> {
-    let mut bytes = Vec::new(alloc);
-    for pair in digits.as_bytes().chunks(2) {
-        bytes.push(byte_of(pair))?;
-    }
+    let bytes = bytes_of(alloc, digits)?;
     match decode_entry(alloc, bytes.as_slice()) {
         Ok(entry) => spelled(alloc, &entry),
         Err(fault) => format!(in alloc; "{fault}"),
@@ -22,6 +21,55 @@ fn spelled(alloc: Global, entry: &Entry) -> Result<String, AllocError>
 {
     let bytes = encode_entry(alloc, entry)?;
     hexadecimal(alloc, bytes.as_slice())
+}
+
+/// The same of the parts of a state.
+pub fn snapshot_again(alloc: Global, digits: &str) -> Result<String, AllocError> {
+    let bytes = bytes_of(alloc, digits)?;
+    match decode_state(alloc, bytes.as_slice()) {
+        Ok(state) => snapshot_spelled(alloc, &state),
+        Err(fault) => format!(in alloc; "{fault}"),
+    }
+}
+
+fn snapshot_spelled(alloc: Global, state: &StateParts) -> Result<String, AllocError>
+    requires { CanSpellParts state.now }
+{
+    let bytes = encode_state(alloc, state)?;
+    hexadecimal(alloc, bytes.as_slice())
+}
+
+/// The revision, the next number, the last opstamp and the number of rows of the state that a snapshot's bytes stand for, or
+/// why there is none.
+pub fn restored(alloc: Global, digits: &str) -> Result<String, AllocError> {
+    let bytes = bytes_of(alloc, digits)?;
+    match decode_state(alloc, bytes.as_slice()) {
+        Ok(state) => remade(alloc, state),
+        Err(fault) => format!(in alloc; "{fault}"),
+    }
+}
+
+fn remade(alloc: Global, state: StateParts) -> Result<String, AllocError>
+    requires { CanSpellParts state }
+{
+    match Meta::restore(alloc, state) {
+        Ok(meta) => format!(in alloc;
+            "{} {} {} {}",
+            meta.revision(),
+            meta.next_number(),
+            meta.last_opstamp(),
+            meta.rows().len()
+        ),
+        Err(fault) => format!(in alloc; "{fault}"),
+    }
+}
+
+fn bytes_of(alloc: Global, digits: &str) -> Result<Vec<u8>, AllocError> {
+    let mut bytes = Vec::new(alloc);
+    for pair in digits.as_bytes().chunks(2) {
+        bytes.push(byte_of(pair))?;
+    }
+    Ok(bytes)
 }
 
 fn digit(byte: u8) -> u8 {

@@ -14,7 +14,8 @@ use std::mem;
 
 /// `begin` begins a history with its Create. `stage`, `publish`, `replace`, `raise`, `task`, `mark` and `remove` are entries, with
 /// their moment and their numbers. `spans N` shows a row's spans, `counts` the revision and the next number, `covers A U` whether a
-/// task behind A and up to U covers a document. `entry H` reads the bytes H and spells them again, and `place W` tries a journal's places.
+/// task behind A and up to U covers a document. `entry H` and `snapshot H` read the bytes H and spell them again,
+/// `restore H` makes a state of a snapshot, and `place W` tries a journal's places.
 pub fn answer(alloc: Global, meta: &mut Meta, line: &str) -> Result<String, AllocError> {
     let (asked, rest) = line.split_once(' ').unwrap_or((line, ""));
     match asked {
@@ -23,6 +24,8 @@ pub fn answer(alloc: Global, meta: &mut Meta, line: &str) -> Result<String, Allo
         "counts" => format!(in alloc; "{} {}", meta.revision(), meta.next_number()),
         "covers" => covered(alloc, meta, &entries::numbers_of(alloc, rest)?),
         "entry" => bytes::spelled_again(alloc, rest),
+        "snapshot" => bytes::snapshot_again(alloc, rest),
+        "restore" => bytes::restored(alloc, rest),
         "place" => places::answer(alloc, rest),
         _ => taken(alloc, meta, asked, rest),
     }

@@ -1,5 +1,6 @@
 use Rattle.index_config.proofs.Accepted.{accepted-schema, accepted-timestamp, accepted-formats, accepted-defaults, accepted-named, accepted-plain, accepted-tags, accepted-texts, accepted-dynamic, accepted-outside}
 use Rattle.index_config.proofs.Ranges.{accepted-ranges}
+use Rattle.index_config.proofs.Retained.{accepted-retained}
 use Rattle.index_config.proofs.laws.accepted_laws.Goals as goal
 
 pub returns : goal.returns
@@ -14,5 +15,6 @@ returns c = record {
   tags = accepted-tags;
   texts = accepted-texts;
   dynamic = accepted-dynamic;
+  retained = accepted-retained;
   outside = accepted-outside;
 }
