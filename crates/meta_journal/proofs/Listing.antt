@@ -14,8 +14,8 @@ use Rattle.object_store.specs.Store.{Objects, State, is_behind, is_wanted, liste
 use Rattle.object_store.proofs.States.{tied}
 use Rattle.meta_journal.specs.Places.{meta_prefix, meta_key, numbered, BeginsWith}
 use Rattle.meta_journal.specs.Journal.{max_entries}
-use Rattle.meta_journal.specs.Loading.{last_key, keys_from, keys_behind, IsOtherKey, IsForeign}
-use Rattle.meta_journal.proofs.KeyOrder.{IsLess, never_less_itself, keys_rise, not_below, keys_apart}
+use Rattle.meta_journal.specs.Loading.{last_key, keys_from, keys_behind, IsOtherKey, IsForeign, IsListed}
+use Rattle.meta_journal.proofs.KeyOrder.{IsLess, never_less_itself, keys_rise, less_then, not_below, keys_apart}
 
 abbrev Key : Type 0
 Key = List ℕ
@@ -210,8 +210,8 @@ absent_by s start n none le small (Some bytes) e =
 
 -- ---- a key that is no entry's
 
-pub other_is_foreign : (start : ℕ) (s : State) (key : Key) → IsOtherKey (keys_behind start s) start key → IsForeign s key
-other_is_foreign start s key o = record { stands = there.0; prefix = there.1; is_none = none }
+pub other_is_foreign : (start : ℕ) (s : State) (key : Key) → IsOtherKey (keys_behind start s) start key → IsForeign start s key
+other_is_foreign start s key o = record { stands = there.0; listed = (there.1, there.2); is_none = none }
   where
     at : ℕ
     at = start + o.front
@@ -225,8 +225,8 @@ other_is_foreign start s key o = record { stands = there.0; prefix = there.1; is
     there : IsSome (finmap.get s.objects key) × BeginsWith meta_prefix key × (is_behind (last_key start) key ≡ true)
     there = behind_stands start s key has_key
 
-    none : (n : ℕ) → n < max_entries → key ≡ meta_key n → (m : ℕ) × (m < n) × (numbered s m ≡ None)
-    none n small is = (at, above, absent_by s start at not_listed (omega arith) (omega (arith, above)) (numbered s at) refl)
+    none : (n : ℕ) → n < max_entries → key ≡ meta_key n → (m : ℕ) × (start ≤ m) × (m < n) × (numbered s m ≡ None)
+    none n small is = (at, omega arith, above, absent_by s start at not_listed (omega arith) (omega (arith, above)) (numbered s at) refl)
       where
         not_before : n < start → ⊥
         not_before lt = not_behind start n lt (let w = o.within in omega arith) (subst (λ (k : Key). is_behind (last_key start) k ≡ true) is there.2)
@@ -282,3 +282,24 @@ less_behind start (suc k) zero s key rest sum parts h = absurd (omega arith)
 less_behind start (suc k) (suc count) s key rest sum parts h =
     let last : Has (keys_from start (suc k)) (meta_key count) = has_from start (suc k) count (omega arith) (omega arith) in
     less_true (order (meta_key count) key) (rising_parts (keys_from start (suc k)) rest (meta_key count) key (subst Rising parts (behind_rises start s)) last h)
+
+-- ---- what is listed from an earlier number on
+
+-- behind the last of some entries is behind the last of fewer
+pub behind_fewer : (from start : ℕ) (key : Key) → from ≤ start → start < 2 ^ 64 → is_behind (last_key start) key ≡ true → is_behind (last_key from) key ≡ true
+behind_fewer zero start key le small h = refl
+behind_fewer (suc from) zero key le small h = absurd (omega arith)
+behind_fewer (suc from) (suc start) key le small h = elim (same_or_less from start (omega arith)) [
+  | inl same ↦ subst (λ (n : ℕ). is_behind (last_key (suc n)) key ≡ true) (sym same) h
+  | inr lt ↦ less_true (order (meta_key from) key) (less_then (meta_key from) (meta_key start) key (keys_rise from start lt (omega arith)) (less_is (order (meta_key start) key) h))
+]
+  where
+    same_or_less : (a b : ℕ) → a ≤ b → (a ≡ b) ⊎ (a < b)
+    same_or_less a b le = grind arith
+
+pub foreign_fewer : (from start : ℕ) (s : State) (key : Key) → from ≤ start → start < 2 ^ 64 → IsForeign start s key → IsForeign from s key
+foreign_fewer from start s key le small f = record {
+  stands = f.stands;
+  listed = (f.listed.0, behind_fewer from start key le small f.listed.1);
+  is_none = λ n lt is. let x = f.is_none n lt is in (x.0, (let a = x.1 in omega arith), x.2, x.3);
+}

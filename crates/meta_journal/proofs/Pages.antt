@@ -13,9 +13,9 @@ use Rattle.meta_journal.specs.declared.journal_error.JournalError.{JournalError}
 use Rattle.meta_journal.specs.declared.journal_error.JournalError.TheVariants.{Memory, Adopted, StoreFault, Foreign, Corrupt, Full, Missing}
 use Rattle.meta_journal.specs.Places.{meta_prefix, meta_key, numbered, BeginsWith}
 use Rattle.meta_journal.specs.Journal.{max_entries}
-use Rattle.meta_journal.specs.Loading.{last_key, keys_from, keys_behind, IsBelow, IsOtherKey, HasGap, IsForeign, IsCounted, IsPage, HasPage, FillsGap, page_behind, LooksBehind, Pages, Counts}
+use Rattle.meta_journal.specs.Loading.{IsListed, last_key, keys_from, keys_behind, IsBelow, IsOtherKey, HasGap, IsForeign, IsCounted, IsPage, HasPage, FillsGap, page_behind, LooksBehind, Pages, Counts}
 use Rattle.meta_journal.proofs.KeyOrder.{keys_apart, not_below, less_then}
-use Rattle.meta_journal.proofs.Listing.{Has, Rising, behind_has, behind_stands, from_has, has_from, has_append, has_front, has_behind, below_has, rising_rest, behind_rises, absent_by, other_is_foreign, less_behind, less_true}
+use Rattle.meta_journal.proofs.Listing.{Has, Rising, behind_has, behind_stands, from_has, has_from, has_append, has_front, has_behind, below_has, rising_rest, behind_rises, absent_by, other_is_foreign, foreign_fewer, less_behind, less_true}
 
 -- ---- one page
 
@@ -82,8 +82,12 @@ gap_page keys start number key gap (Ok page) is = subst (IsPage start) (sym is) 
 gap_page keys start number key gap (Err x) is = tt
 
 -- where the entry in the gap was looked for and is absent, the key behind it is no entry's
-gap_is_foreign : (start number : ℕ) (key : List ℕ) (m s : State) → HasGap (keys_behind start m) start number key → HasLanded m s → numbered s number ≡ None → IsForeign s key
-gap_is_foreign start number key m s gap landed absent = record { stands = stays m s key landed there.0; prefix = there.1; is_none = λ n small is. (number, above n is, absent) }
+gap_is_foreign : (start number : ℕ) (key : List ℕ) (m s : State) → HasGap (keys_behind start m) start number key → HasLanded m s → numbered s number ≡ None → IsForeign start s key
+gap_is_foreign start number key m s gap landed absent = record {
+  stands = stays m s key landed there.0;
+  listed = (there.1, there.2);
+  is_none = λ n small is. (number, (let e = gap.number_is in omega arith), above n is, absent);
+}
   where
     there : IsSome (finmap.get m.objects key) × BeginsWith meta_prefix key × (is_behind (last_key start) key ≡ true)
     there = behind_stands start m key (subst (λ (l : List (List ℕ)). Has l key) (sym gap.parts) (has_behind (keys_from start gap.front) (key ∷ gap.rest) key (inl refl)))
@@ -143,7 +147,7 @@ module _ (start : ℕ) (keys : List (List ℕ)) (o n : State) (listing : LandsTh
   gap_looked number key gap (Ok page) s h = inr (record { mid = n; before = landed_page; behind = h.0; number = number; key = key; gap = gap_whole number key gap; stands = h.1.1; page_is = h.1.0 })
   gap_looked number key gap (Err (Foreign k)) s h = (
     HasLanded-trans o n s landed_page h.0,
-    subst (λ (x : List ℕ). IsForeign s x) (sym h.1.0) (gap_is_foreign start number key n s (gap_whole number key gap) h.0 h.1.1),
+    subst (λ (x : List ℕ). IsForeign start s x) (sym h.1.0) (gap_is_foreign start number key n s (gap_whole number key gap) h.0 h.1.1),
   )
   gap_looked number key gap (Err (StoreFault b a)) s h = HasLanded-trans o n s landed_page h.0
   gap_looked number key gap (Err (Memory a)) s h = HasLanded-trans o n s landed_page h.0
@@ -157,13 +161,22 @@ refused_listed start e o n h = landed_to o h.0 n h.1 h.2
 
 -- ---- the pages so far
 
-pub record IsSoFar (count : ℕ) (old new : State) : Type 0 where
+pub record IsSoFar (from count : ℕ) (old new : State) : Type 0 where
   pub landed : HasLanded old new
-  pub stand : (n : ℕ) → n < count → IsSome (numbered new n)
-  pub covered : (key : List ℕ) → BeginsWith meta_prefix key → IsSome (finmap.get old.objects key) → is_behind (last_key count) key ≡ false → (n : ℕ) × (n < count) × (key ≡ meta_key n)
+  pub rises : from ≤ count
+  pub stand : (n : ℕ) → from ≤ n → n < count → IsSome (numbered new n)
+  pub covered : (key : List ℕ) → IsListed from key → IsSome (finmap.get old.objects key) → is_behind (last_key count) key ≡ false → (n : ℕ) × (n < count) × (key ≡ meta_key n)
 
-pub none_so_far : (s : State) → IsSoFar 0 s s
-none_so_far s = record { landed = HasLanded-refl s; stand = λ n lt. absurd (omega arith); covered = λ key prefix some never. absurd cc }
+clash : (b : Bool) → b ≡ true → b ≡ false → ⊥
+clash b e f = cc
+
+pub none_so_far : (from : ℕ) (s : State) → IsSoFar from from s s
+none_so_far from s = record {
+  landed = HasLanded-refl s;
+  rises = omega arith;
+  stand = λ n le lt. absurd (omega arith);
+  covered = λ key listed some not. absurd (clash (is_behind (last_key from) key) listed.1 not);
+}
 
 true_or_false : (b : Bool) → (b ≡ true) ⊎ (b ≡ false)
 true_or_false true = inl refl
@@ -172,7 +185,7 @@ true_or_false false = inr refl
 before_or_from : (n start : ℕ) → (n < start) ⊎ (start ≤ n)
 before_or_from n start = grind arith
 
-module _ (start : ℕ) (page : Page) (o m s : State) (so_far : IsSoFar start o m) (is_page : IsPage start page) (landed : HasLanded m s) (has : HasPage start page s) where
+module _ (from start : ℕ) (page : Page) (o m s : State) (so_far : IsSoFar from start o m) (is_page : IsPage start page) (landed : HasLanded m s) (has : HasPage start page s) where
   sum : start + (page.count - start) ≡ page.count
   sum = let g = is_page.grows in omega arith
 
@@ -185,49 +198,51 @@ module _ (start : ℕ) (page : Page) (o m s : State) (so_far : IsSoFar start o m
   named : (key : List ℕ) → Has (keys_from start (page.count - start)) key → (n : ℕ) × (n < page.count) × (key ≡ meta_key n)
   named key h = let r = from_has start (page.count - start) key h in (r.0, (let lt = r.2 in omega (arith, sum)), r.3)
 
-  stand_whole : (n : ℕ) → n < page.count → IsSome (numbered s n)
-  stand_whole n lt = elim (before_or_from n start) [
-    | inl before ↦ stays m s (meta_key n) landed (so_far.stand n before)
-    | inr from ↦
-        let among : Has (keys_behind start s) (meta_key n) = subst (λ (l : List (List ℕ)). Has l (meta_key n)) (sym has.parts) (has_front (keys_from start (page.count - start)) has.rest (meta_key n) (has_from start (page.count - start) n from (omega (arith, sum)))) in
+  stand_whole : (n : ℕ) → from ≤ n → n < page.count → IsSome (numbered s n)
+  stand_whole n least lt = elim (before_or_from n start) [
+    | inl before ↦ stays m s (meta_key n) landed (so_far.stand n least before)
+    | inr at_least ↦
+        let among : Has (keys_behind start s) (meta_key n) = subst (λ (l : List (List ℕ)). Has l (meta_key n)) (sym has.parts) (has_front (keys_from start (page.count - start)) has.rest (meta_key n) (has_from start (page.count - start) n at_least (omega (arith, sum)))) in
         (behind_stands start s (meta_key n) among).0
   ]
 
   -- an old key is among those before, or is listed
-  old_key : (key : List ℕ) → BeginsWith meta_prefix key → IsSome (finmap.get o.objects key) → ((n : ℕ) × (n < page.count) × (key ≡ meta_key n)) ⊎ Has has.rest key
-  old_key key prefix some = elim (true_or_false (is_behind (last_key start) key)) [
+  old_key : (key : List ℕ) → IsListed from key → IsSome (finmap.get o.objects key) → ((n : ℕ) × (n < page.count) × (key ≡ meta_key n)) ⊎ Has has.rest key
+  old_key key wanted some = elim (true_or_false (is_behind (last_key start) key)) [
     | inl behind ↦
-        let listed_key : Has (keys_behind start s) key = behind_has start s key (stays o s key landed_whole some) prefix behind in
+        let listed_key : Has (keys_behind start s) key = behind_has start s key (stays o s key landed_whole some) wanted.0 behind in
         elim (has_append (keys_from start (page.count - start)) has.rest key (subst (λ (l : List (List ℕ)). Has l key) has.parts listed_key)) [
           | inl front ↦ inl (named key front)
           | inr rest ↦ inr rest
         ]
-    | inr not ↦ let r = so_far.covered key prefix some not in inl (r.0, (let lt = r.1 in let g = is_page.grows in omega arith), r.2)
+    | inr not ↦ let r = so_far.covered key wanted some not in inl (r.0, (let lt = r.1 in let g = is_page.grows in omega arith), r.2)
   ]
 
   -- a key of the rest is behind the last of the page
   rest_behind : (key : List ℕ) → Has has.rest key → is_behind (last_key page.count) key ≡ true
   rest_behind key h = less_behind start (page.count - start) page.count s key has.rest sum has.parts h
 
-  more_whole : IsSoFar page.count o s
+  risen : from ≤ page.count
+  risen = let g = is_page.grows in omega (arith, so_far.rises)
+
+  more_whole : IsSoFar from page.count o s
   more_whole = record {
     landed = landed_whole;
+    rises = risen;
     stand = stand_whole;
-    covered = λ key prefix some not. elim (old_key key prefix some) [
+    covered = λ key wanted some not. elim (old_key key wanted some) [
       | inl named ↦ named
       | inr rest ↦ absurd (clash (is_behind (last_key page.count) key) (rest_behind key rest) not)
     ];
   }
-    where
-      clash : (b : Bool) → b ≡ true → b ≡ false → ⊥
-      clash b e f = cc
 
-  last_whole : page.is_last ≡ true → IsCounted page.count o s
+  last_whole : page.is_last ≡ true → IsCounted from page.count o s
   last_whole last = record {
     landed = landed_whole;
+    rises = risen;
     stand = stand_whole;
     ends = absent_by s start page.count not_listed is_page.grows small (numbered s page.count) refl;
-    no_other = λ key prefix some. elim (old_key key prefix some) [
+    no_other = λ key wanted some. elim (old_key key wanted some) [
       | inl named ↦ named
       | inr rest ↦ absurd (subst (λ (l : List (List ℕ)). Has l key) none rest)
     ];
@@ -243,7 +258,7 @@ module _ (start : ℕ) (page : Page) (o m s : State) (so_far : IsSoFar start o m
       not_listed h = let r = named (meta_key page.count) (subst (λ (l : List (List ℕ)). Has l (meta_key page.count)) all_named h) in keys_apart r.0 page.count r.1 small r.2
 
 -- an entry that was not listed, and was found by its key
-module _ (start : ℕ) (page : Page) (o m s : State) (so_far : IsSoFar start o m) (fills : FillsGap start page m s) where
+module _ (from start : ℕ) (page : Page) (o m s : State) (so_far : IsSoFar from start o m) (fills : FillsGap start page m s) where
   in_front : start + fills.gap.front ≡ fills.number
   in_front = sym fills.gap.number_is
 
@@ -259,12 +274,12 @@ module _ (start : ℕ) (page : Page) (o m s : State) (so_far : IsSoFar start o m
   here_or_before : (n start at : ℕ) → n < at + 1 → (n < start) ⊎ (((start ≤ n) × (n < at)) ⊎ (n ≡ at))
   here_or_before n start at lt = elim (before_or_from n start) [
     | inl before ↦ inl before
-    | inr from ↦ inr (elim (before_or_from n at) [ inl below ↦ inl (from, below) | inr at_least ↦ inr (omega arith) ])
+    | inr least ↦ inr (elim (before_or_from n at) [ inl below ↦ inl (least, below) | inr at_least ↦ inr (omega arith) ])
   ]
 
-  stand_filled : (n : ℕ) → n < fills.number + 1 → IsSome (numbered s n)
-  stand_filled n lt = elim (here_or_before n start fills.number lt) [
-    | inl before ↦ stays m s (meta_key n) (HasLanded-trans m fills.mid s fills.before fills.behind) (so_far.stand n before)
+  stand_filled : (n : ℕ) → from ≤ n → n < fills.number + 1 → IsSome (numbered s n)
+  stand_filled n least lt = elim (here_or_before n start fills.number lt) [
+    | inl before ↦ stays m s (meta_key n) (HasLanded-trans m fills.mid s fills.before fills.behind) (so_far.stand n least before)
     | inr other ↦ elim other [
       | inl among ↦
           let has : Has (keys_behind start fills.mid) (meta_key n) = subst (λ (l : List (List ℕ)). Has l (meta_key n)) (sym fills.gap.parts)
@@ -282,41 +297,41 @@ module _ (start : ℕ) (page : Page) (o m s : State) (so_far : IsSoFar start o m
   behind_gap : (key : List ℕ) → Has (fills.key ∷ fills.gap.rest) key → is_behind (last_key (fills.number + 1)) key ≡ true
   behind_gap key h = rw add-one (less_true (slice_cmp nat_cmp (meta_key fills.number) key) (above_gap key h))
 
-  covered_filled : (key : List ℕ) → BeginsWith meta_prefix key → IsSome (finmap.get o.objects key) → is_behind (last_key (fills.number + 1)) key ≡ false → (n : ℕ) × (n < fills.number + 1) × (key ≡ meta_key n)
-  covered_filled key prefix some not = elim (true_or_false (is_behind (last_key start) key)) [
+  covered_filled : (key : List ℕ) → IsListed from key → IsSome (finmap.get o.objects key) → is_behind (last_key (fills.number + 1)) key ≡ false → (n : ℕ) × (n < fills.number + 1) × (key ≡ meta_key n)
+  covered_filled key wanted some not = elim (true_or_false (is_behind (last_key start) key)) [
     | inl behind ↦
-        let listed_key : Has (keys_behind start fills.mid) key = behind_has start fills.mid key (stays o fills.mid key to_mid some) prefix behind in
+        let listed_key : Has (keys_behind start fills.mid) key = behind_has start fills.mid key (stays o fills.mid key to_mid some) wanted.0 behind in
         elim (has_append (keys_from start fills.gap.front) (fills.key ∷ fills.gap.rest) key (subst (λ (l : List (List ℕ)). Has l key) fills.gap.parts listed_key)) [
           | inl front ↦ let r = from_has start fills.gap.front key front in (r.0, (let lt = r.2 in omega (arith, in_front)), r.3)
-          | inr rest ↦ absurd (apart_tests (is_behind (last_key (fills.number + 1)) key) (behind_gap key rest) not)
+          | inr rest ↦ absurd (clash (is_behind (last_key (fills.number + 1)) key) (behind_gap key rest) not)
         ]
-    | inr before ↦ let r = so_far.covered key prefix some before in (r.0, (let lt = r.1 in omega (arith, in_front)), r.2)
+    | inr before ↦ let r = so_far.covered key wanted some before in (r.0, (let lt = r.1 in omega (arith, in_front)), r.2)
   ]
-    where
-      apart_tests : (b : Bool) → b ≡ true → b ≡ false → ⊥
-      apart_tests b e f = cc
 
-  more_filled : IsSoFar page.count o s
-  more_filled = subst (λ (p : Page). IsSoFar p.count o s) (sym fills.page_is) (record { landed = to_end; stand = stand_filled; covered = covered_filled })
+  risen_filled : from ≤ fills.number + 1
+  risen_filled = omega (arith, in_front, so_far.rises)
 
-  last_filled : page.is_last ≡ true → IsCounted page.count o s
+  more_filled : IsSoFar from page.count o s
+  more_filled = subst (λ (p : Page). IsSoFar from p.count o s) (sym fills.page_is) (record { landed = to_end; rises = risen_filled; stand = stand_filled; covered = covered_filled })
+
+  last_filled : page.is_last ≡ true → IsCounted from page.count o s
   last_filled last = let never : false ≡ true = sym (ap (λ (p : Page). p.is_last) fills.page_is) ∙ last in absurd cc
 
-pub one_more_page : (start : ℕ) (page : Page) (o m s : State) → IsSoFar start o m → IsPage start page → Pages start (Ok page) m s → IsSoFar page.count o s
-one_more_page start page o m s so_far is_page (inl listed) = more_whole start page o m s so_far is_page listed.0 listed.1
-one_more_page start page o m s so_far is_page (inr fills) = more_filled start page o m s so_far fills
+pub one_more_page : (from start : ℕ) (page : Page) (o m s : State) → IsSoFar from start o m → IsPage start page → Pages start (Ok page) m s → IsSoFar from page.count o s
+one_more_page from start page o m s so_far is_page (inl listed) = more_whole from start page o m s so_far is_page listed.0 listed.1
+one_more_page from start page o m s so_far is_page (inr fills) = more_filled from start page o m s so_far fills
 
-pub last_page : (start : ℕ) (page : Page) (o m s : State) → IsSoFar start o m → IsPage start page → Pages start (Ok page) m s → page.is_last ≡ true → IsCounted page.count o s
-last_page start page o m s so_far is_page (inl listed) last = last_whole start page o m s so_far is_page listed.0 listed.1 last
-last_page start page o m s so_far is_page (inr fills) last = last_filled start page o m s so_far fills last
+pub last_page : (from start : ℕ) (page : Page) (o m s : State) → IsSoFar from start o m → IsPage start page → Pages start (Ok page) m s → page.is_last ≡ true → IsCounted from page.count o s
+last_page from start page o m s so_far is_page (inl listed) last = last_whole from start page o m s so_far is_page listed.0 listed.1 last
+last_page from start page o m s so_far is_page (inr fills) last = last_filled from start page o m s so_far fills last
 
 -- ---- what ends the listing
 
-pub page_refused : (start count : ℕ) (x : JournalError) (o m s : State) → HasLanded o m → Pages start (Err x) m s → Counts (Err x) o s
-page_refused start count (Foreign key) o m s h p = (HasLanded-trans o m s h p.0, p.1)
-page_refused start count (StoreFault b a) o m s h p = HasLanded-trans o m s h p
-page_refused start count (Memory a) o m s h p = HasLanded-trans o m s h p
-page_refused start count (Corrupt key) o m s h p = p
-page_refused start count (Missing key) o m s h p = p
-page_refused start count (Adopted e) o m s h p = p
-page_refused start count Full o m s h p = p
+pub page_refused : (from start : ℕ) (x : JournalError) (o m s : State) → from ≤ start → start < 2 ^ 64 → HasLanded o m → Pages start (Err x) m s → Counts from (Err x) o s
+page_refused from start (Foreign key) o m s le small h p = (HasLanded-trans o m s h p.0, foreign_fewer from start s key le small p.1)
+page_refused from start (StoreFault b a) o m s le small h p = HasLanded-trans o m s h p
+page_refused from start (Memory a) o m s le small h p = HasLanded-trans o m s h p
+page_refused from start (Corrupt key) o m s le small h p = p
+page_refused from start (Missing key) o m s le small h p = p
+page_refused from start (Adopted e) o m s le small h p = p
+page_refused from start Full o m s le small h p = p

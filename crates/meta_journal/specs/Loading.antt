@@ -4,44 +4,49 @@ use Rattle.std.specs.FinMap as finmap
 use Rattle.std.specs.Ordering.{nat_cmp}
 use Rattle.std.specs.Cmp.Lexicographic.{slice_cmp}
 use Rattle.std.specs.declared.cmp.Ordering.TheVariants.{Less}
-use Rattle.object_store.specs.Store.{State, HasLanded, listed}
+use Rattle.object_store.specs.Store.{State, HasLanded, listed, is_behind}
 use Rattle.meta_journal.specs.declared.entry.Entry.{Entry}
 use Rattle.meta_journal.specs.declared.journal_error.JournalError.{JournalError}
 use Rattle.meta_journal.specs.declared.journal_error.JournalError.TheVariants.{Memory, Adopted, StoreFault, Foreign, Corrupt, Full, Missing}
 use Rattle.meta_journal.specs.declared.place.JournalPlace.TheVariants.{Sure}
 use Rattle.meta_journal.specs.declared.loading.Page.{Page}
 use Rattle.meta_journal.specs.declared.loading.Other.{Other}
-use Rattle.meta_journal.specs.Places.{meta_key, meta_prefix, numbered, Stand, IsJournal, BeginsWith}
+use Rattle.meta_journal.specs.Places.{meta_key, meta_prefix, numbered, Stand, StandFrom, BeginsWith}
 use Rattle.meta_journal.specs.Journal.{Numbered, IsCorrupt, max_entries}
 
 -- a journal that took in so many entries, and knows of no doubt
 abbrev pub loaded : ℕ → Numbered
 loaded n = record { next = n; place = Sure; settled = false }
 
--- The entries are the journal of the store as it stood when it was listed; no other key stood under `meta/` at the start.
-pub record IsLoaded (es : List Entry) (old new : State) : Type 0 where
+-- the key of the last of so many entries
+abbrev pub last_key : ℕ → Option (List ℕ)
+last_key zero = None
+last_key (suc n) = Some (meta_key n)
+
+-- a key under `meta/` behind that of the last of so many entries, which a load from there on lists
+abbrev pub IsListed : ℕ → List ℕ → Type 0
+IsListed from key = BeginsWith meta_prefix key × (is_behind (last_key from) key ≡ true)
+
+-- The entries are those from a number on of the journal of the store as it stood when it was listed; no other key stood under `meta/`
+-- behind those before it at the start.
+pub record IsLoaded (from : ℕ) (es : List Entry) (old new : State) : Type 0 where
   pub mid : State
   pub before : HasLanded old mid
   pub behind : HasLanded mid new
-  pub journal : IsJournal mid es
-  pub no_other : (key : List ℕ) → BeginsWith meta_prefix key → IsSome (finmap.get old.objects key) → (n : ℕ) × (n < length es) × (key ≡ meta_key n)
+  pub journal : StandFrom mid from es None
+  pub no_other : (key : List ℕ) → IsListed from key → IsSome (finmap.get old.objects key) → (n : ℕ) × (n < from + length es) × (key ≡ meta_key n)
 
--- a key under `meta/` that is no entry's: it has another form, its number is past the limit, or a number below it is absent
-pub record IsForeign (s : State) (key : List ℕ) : Type 0 where
+-- a listed key that is no entry's: it has another form, its number is past the limit, or a number before it from there on is absent
+pub record IsForeign (from : ℕ) (s : State) (key : List ℕ) : Type 0 where
   pub stands : IsSome (finmap.get s.objects key)
-  pub prefix : BeginsWith meta_prefix key
-  pub is_none : (n : ℕ) → n < max_entries → key ≡ meta_key n → (m : ℕ) × (m < n) × (numbered s m ≡ None)
+  pub listed : IsListed from key
+  pub is_none : (n : ℕ) → n < max_entries → key ≡ meta_key n → (m : ℕ) × (from ≤ m) × (m < n) × (numbered s m ≡ None)
 
 -- ---- the pages of a listing
 
 -- before it, in the order of the bytes
 abbrev pub IsBelow : List ℕ → List ℕ → Type 0
 IsBelow a b = slice_cmp nat_cmp a b ≡ Less
-
--- the key of the last of so many entries
-abbrev pub last_key : ℕ → Option (List ℕ)
-last_key zero = None
-last_key (suc n) = Some (meta_key n)
 
 -- the keys of so many entries from a number on
 abbrev pub keys_from : ℕ → ℕ → List (List ℕ)
@@ -136,7 +141,7 @@ pub record FillsGap (start : ℕ) (page : Page) (old new : State) : Type 0 where
 
 abbrev pub Pages : ℕ → Result Page JournalError → State → State → Type 0
 Pages start (Ok page) old new = (HasLanded old new × HasPage start page new) ⊎ FillsGap start page old new
-Pages start (Err (Foreign key)) old new = HasLanded old new × IsForeign new key
+Pages start (Err (Foreign key)) old new = HasLanded old new × IsForeign start new key
 Pages start (Err (StoreFault before after)) old new = HasLanded old new
 Pages start (Err (Memory a)) old new = HasLanded old new
 Pages start (Err (Corrupt key)) old new = ⊥
@@ -144,64 +149,69 @@ Pages start (Err (Missing key)) old new = ⊥
 Pages start (Err (Adopted e)) old new = ⊥
 Pages start (Err Full) old new = ⊥
 
--- so many entries stand, none stands behind them, and no other key stood at the start
-pub record IsCounted (count : ℕ) (old new : State) : Type 0 where
+-- The entries from a number on up to another stand, none stands behind them, and no other listed key stood at the start.
+pub record IsCounted (from count : ℕ) (old new : State) : Type 0 where
   pub landed : HasLanded old new
-  pub stand : (n : ℕ) → n < count → IsSome (numbered new n)
+  pub rises : from ≤ count
+  pub stand : (n : ℕ) → from ≤ n → n < count → IsSome (numbered new n)
   pub ends : numbered new count ≡ None
-  pub no_other : (key : List ℕ) → BeginsWith meta_prefix key → IsSome (finmap.get old.objects key) → (n : ℕ) × (n < count) × (key ≡ meta_key n)
+  pub no_other : (key : List ℕ) → IsListed from key → IsSome (finmap.get old.objects key) → (n : ℕ) × (n < count) × (key ≡ meta_key n)
 
-abbrev pub Counts : Result ℕ JournalError → State → State → Type 0
-Counts (Ok count) old new = IsCounted count old new
-Counts (Err (Foreign key)) old new = HasLanded old new × IsForeign new key
-Counts (Err (StoreFault before after)) old new = HasLanded old new
-Counts (Err (Memory a)) old new = HasLanded old new
-Counts (Err (Corrupt key)) old new = ⊥
-Counts (Err (Missing key)) old new = ⊥
-Counts (Err (Adopted e)) old new = ⊥
-Counts (Err Full) old new = ⊥
+abbrev pub Counts : ℕ → Result ℕ JournalError → State → State → Type 0
+Counts from (Ok count) old new = IsCounted from count old new
+Counts from (Err (Foreign key)) old new = HasLanded old new × IsForeign from new key
+Counts from (Err (StoreFault before after)) old new = HasLanded old new
+Counts from (Err (Memory a)) old new = HasLanded old new
+Counts from (Err (Corrupt key)) old new = ⊥
+Counts from (Err (Missing key)) old new = ⊥
+Counts from (Err (Adopted e)) old new = ⊥
+Counts from (Err Full) old new = ⊥
 
--- the first object that is no entry: those with lower numbers are entries
-abbrev pub FirstCorrupt : State → List ℕ → Type 0
-FirstCorrupt s key = (es : List Entry) × Stand s 0 es × IsCorrupt s (length es) key
+-- the first object from a number on that is no entry: those before it are entries
+abbrev pub FirstCorrupt : ℕ → State → List ℕ → Type 0
+FirstCorrupt from s key = (es : List Entry) × Stand s from es × IsCorrupt s (from + length es) key
 
--- the entries that stood with so many numbers
-abbrev pub ReadsAll : ℕ → Result (List Entry) JournalError → State → State → Type 0
-ReadsAll count (Ok es) old new = HasLanded old new × (((n : ℕ) → n < count → IsSome (numbered old n)) → Stand old 0 es)
-ReadsAll count (Err (Corrupt key)) old new = HasLanded old new × (((n : ℕ) → n < count → IsSome (numbered old n)) → FirstCorrupt old key)
-ReadsAll count (Err (Missing key)) old new = HasLanded old new × (((n : ℕ) → n < count → IsSome (numbered old n)) → ⊥)
-ReadsAll count (Err (StoreFault before after)) old new = HasLanded old new
-ReadsAll count (Err (Memory a)) old new = HasLanded old new
-ReadsAll count (Err (Foreign key)) old new = ⊥
-ReadsAll count (Err (Adopted e)) old new = ⊥
-ReadsAll count (Err Full) old new = ⊥
+-- the objects from a number on up to another stand
+abbrev pub AllStand : (from count : ℕ) → State → Type 0
+AllStand from count s = (n : ℕ) → from ≤ n → n < count → IsSome (numbered s n)
+
+-- the entries that stood with these numbers
+abbrev pub ReadsAll : (from count : ℕ) → Result (List Entry) JournalError → State → State → Type 0
+ReadsAll from count (Ok es) old new = HasLanded old new × (AllStand from count old → Stand old from es)
+ReadsAll from count (Err (Corrupt key)) old new = HasLanded old new × (AllStand from count old → FirstCorrupt from old key)
+ReadsAll from count (Err (Missing key)) old new = HasLanded old new × (AllStand from count old → ⊥)
+ReadsAll from count (Err (StoreFault before after)) old new = HasLanded old new
+ReadsAll from count (Err (Memory a)) old new = HasLanded old new
+ReadsAll from count (Err (Foreign key)) old new = ⊥
+ReadsAll from count (Err (Adopted e)) old new = ⊥
+ReadsAll from count (Err Full) old new = ⊥
 
 -- ---- the whole
 
--- So many objects stood when the store was listed, no other key stood under `meta/` at the start, and this is the key of the
--- first of them that is no entry.
-pub record IsSpoilt (key : List ℕ) (old new : State) : Type 0 where
+-- So many objects stood when the store was listed, no other listed key stood at the start, and this is the key of the first of them
+-- that is no entry.
+pub record IsSpoilt (from : ℕ) (key : List ℕ) (old new : State) : Type 0 where
   pub mid : State
   pub count : ℕ
-  pub counted : IsCounted count old mid
+  pub counted : IsCounted from count old mid
   pub behind : HasLanded mid new
-  pub first : FirstCorrupt mid key
+  pub first : FirstCorrupt from mid key
 
--- what a load leaves, by its answer: late creates may have landed, and nothing else changed
-abbrev pub LoadsEntries : Result (List Entry) JournalError → State → State → Type 0
-LoadsEntries (Ok es) old new = IsLoaded es old new
-LoadsEntries (Err (Foreign key)) old new = HasLanded old new × IsForeign new key
-LoadsEntries (Err (Corrupt key)) old new = IsSpoilt key old new
-LoadsEntries (Err (StoreFault before after)) old new = HasLanded old new
-LoadsEntries (Err (Memory a)) old new = HasLanded old new
-LoadsEntries (Err (Missing key)) old new = ⊥
-LoadsEntries (Err (Adopted e)) old new = ⊥
-LoadsEntries (Err Full) old new = ⊥
+-- what a load from a number on leaves, by its answer: late creates may have landed, and nothing else changed
+abbrev pub LoadsEntries : ℕ → Result (List Entry) JournalError → State → State → Type 0
+LoadsEntries from (Ok es) old new = IsLoaded from es old new
+LoadsEntries from (Err (Foreign key)) old new = HasLanded old new × IsForeign from new key
+LoadsEntries from (Err (Corrupt key)) old new = IsSpoilt from key old new
+LoadsEntries from (Err (StoreFault before after)) old new = HasLanded old new
+LoadsEntries from (Err (Memory a)) old new = HasLanded old new
+LoadsEntries from (Err (Missing key)) old new = ⊥
+LoadsEntries from (Err (Adopted e)) old new = ⊥
+LoadsEntries from (Err Full) old new = ⊥
 
 -- with the journal made of them
-abbrev pub Loads : Result (Numbered × List Entry) JournalError → State → State → Type 0
-Loads (Ok x) old new = LoadsEntries (Ok x.1) old new
-Loads (Err e) old new = LoadsEntries (Err e) old new
+abbrev pub Loads : ℕ → Result (Numbered × List Entry) JournalError → State → State → Type 0
+Loads from (Ok x) old new = LoadsEntries from (Ok x.1) old new
+Loads from (Err e) old new = LoadsEntries from (Err e) old new
 
 -- the refusals of a load
 abbrev pub IsOfLoad : JournalError → Type 0

@@ -146,15 +146,18 @@ impl Journal {
 }
 
 impl Journal {
-    /// The journal of a store, with its entries.
+    /// The journal of a store, with its entries from a number on. Those before it are taken to stand: they are not listed and not
+    /// read.
     pub fn load<S: ObjectStore>(
         alloc: Global,
         store: &mut S,
+        from: u64,
     ) -> Result<(Journal, Entries), JournalError>
+        requires { from ≤ max_entries }
         // What was read, by the answer.
-        ensures answer { WhereTold (S.told store.old) (S.told store.new) (Loads result) }
-        ensures journal { IfOk result (λ x. x.0 ≡ loaded (length x.1)) }
-        ensures within { IfOk result (λ x. length x.1 ≤ max_entries) }
+        ensures answer { WhereTold (S.told store.old) (S.told store.new) (Loads from result) }
+        ensures journal { IfOk result (λ x. x.0 ≡ loaded (from + length x.1)) }
+        ensures within { IfOk result (λ x. from + length x.1 ≤ max_entries) }
 
         // A fault has both counts, and comes only where the count rose.
         ensures faults { IfErr result (FaultIs (S.fault_count store.old) (S.fault_count store.new)) }
@@ -162,9 +165,9 @@ impl Journal {
         ensures refusals { IfErr result IsOfLoad }
     {
         let before = store.faults();
-        let entries = load_entries(alloc, store, before)?;
+        let entries = load_entries(alloc, store, from, before)?;
         let journal = Journal {
-            next: entries.len() as u64,
+            next: from + entries.len() as u64,
             place: JournalPlace::Sure,
             settled: false,
         };

@@ -140,20 +140,22 @@ fn list_page<S: ObjectStore>(
     }
 }
 
-// How many entries the journal has.
+// How many entries the journal has, of which at least those before a number are taken to stand.
 fn count_entries<S: ObjectStore>(
     alloc: Global,
     store: &mut S,
+    from: u64,
     before: u64,
 ) -> Result<u64, JournalError>
-    requires { before ≤ S.fault_count store.old }
-    ensures counts { WhereTold (S.told store.old) (S.told store.new) (Counts result) }
-    ensures within { IfOk result (λ count. count ≤ max_entries) }
+    requires from { from ≤ max_entries }
+    requires before { before ≤ S.fault_count store.old }
+    ensures counts { WhereTold (S.told store.old) (S.told store.new) (Counts from result) }
+    ensures within { IfOk result (λ count. (from ≤ count) × (count ≤ max_entries)) }
     ensures faults { IfErr result (FaultIs before (S.fault_count store.new)) }
     ensures later { S.fault_count store.old ≤ S.fault_count store.new }
     ensures refusals { IfErr result IsOfLoad }
 {
-    let mut count = 0;
+    let mut count = from;
     loop {
         match list_page(alloc, store, count, before) {
             Ok(page) => {
@@ -167,22 +169,24 @@ fn count_entries<S: ObjectStore>(
     }
 }
 
-// The entries of so many objects.
+// The entries of the objects from a number on up to another.
 fn read_entries<S: ObjectStore>(
     alloc: Global,
     store: &mut S,
+    from: u64,
     count: u64,
     before: u64,
 ) -> Result<Entries, JournalError>
-    requires { before ≤ S.fault_count store.old }
-    ensures reads { WhereTold (S.told store.old) (S.told store.new) (ReadsAll count result) }
-    ensures length { IfOk result (λ entries. length entries ≡ count) }
+    requires from { from ≤ count }
+    requires before { before ≤ S.fault_count store.old }
+    ensures reads { WhereTold (S.told store.old) (S.told store.new) (ReadsAll from count result) }
+    ensures length { IfOk result (λ entries. from + length entries ≡ count) }
     ensures faults { IfErr result (FaultIs before (S.fault_count store.new)) }
     ensures later { S.fault_count store.old ≤ S.fault_count store.new }
     ensures refusals { IfErr result IsOfLoad }
 {
     let mut entries = Entries::vacant(alloc);
-    for number in 0..count {
+    for number in from..count {
         match read_entry(alloc, store, number, before) {
             Ok(entry) => {
                 if let Err(refused) = entries.push(entry) {
@@ -195,21 +199,23 @@ fn read_entries<S: ObjectStore>(
     Ok(entries)
 }
 
-/// The entries of the journal. `before` is the count of faults at the beginning.
+/// The entries of the journal from a number on. `before` is the count of faults at the beginning.
 pub fn load_entries<S: ObjectStore>(
     alloc: Global,
     store: &mut S,
+    from: u64,
     before: u64,
 ) -> Result<Entries, JournalError>
-    requires { before ≡ S.fault_count store.old }
-    ensures answer { WhereTold (S.told store.old) (S.told store.new) (LoadsEntries result) }
-    ensures within { IfOk result (λ entries. length entries ≤ max_entries) }
+    requires from { from ≤ max_entries }
+    requires before { before ≡ S.fault_count store.old }
+    ensures answer { WhereTold (S.told store.old) (S.told store.new) (LoadsEntries from result) }
+    ensures within { IfOk result (λ entries. from + length entries ≤ max_entries) }
     ensures faults { IfErr result (FaultIs before (S.fault_count store.new)) }
     ensures later { S.fault_count store.old ≤ S.fault_count store.new }
     ensures refusals { IfErr result IsOfLoad }
 {
-    match count_entries(alloc, store, before) {
-        Ok(count) => read_entries(alloc, store, count, before),
+    match count_entries(alloc, store, from, before) {
+        Ok(count) => read_entries(alloc, store, from, count, before),
         Err(refused) => Err(refused),
     }
 }

@@ -6,7 +6,8 @@ use Rattle.meta_journal.proofs.loading.count_entries.Given as goal
 
 abbrev pub invariant-loop-page : goal.invariant-loop-page
 invariant-loop-page g l = record {
-  told : WhereTold (g.S.ObjectStore.told l.fn.store) (g.S.ObjectStore.told l.store) (IsSoFar l.count);
+  told : WhereTold (g.S.ObjectStore.told l.fn.store) (g.S.ObjectStore.told l.store) (IsSoFar l.from l.count);
+  rises : l.from ≤ l.count;
   within : l.count ≤ max_entries;
   later : g.S.ObjectStore.fault_count l.fn.store ≤ g.S.ObjectStore.fault_count l.store;
 }
