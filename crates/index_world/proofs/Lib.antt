@@ -40,7 +40,6 @@ pub mod NextDoomed
 pub mod RowNumbers
 pub mod Markings
 pub mod Settling
-pub mod TaskFields
 pub mod Dropping
 pub mod Replaced
 pub mod Creating

@@ -1,7 +1,0 @@
-use Rattle.std.proofs.Common.{◌≡◌, drop}
-use Rattle.index_world.specs.Config.{text_numbers}
-use Rattle.index_world.proofs.TaskFields.{behind}
-use Rattle.index_world.proofs.config.text_numbers.Given as goal
-
-abbrev pub invariant-loop-path : goal.invariant-loop-path
-invariant-loop-path l = text_numbers l.fields l.paths ≡ behind l.numbers (text_numbers l.fields (drop l.path-index l.paths))
