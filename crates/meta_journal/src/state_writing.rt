@@ -2,7 +2,7 @@
 
 ghost use Rattle.std.specs.Prelude.{◌≡◌, ◌++◌, OnOk, IfOk};
 ghost use Rattle.meta_journal.specs.Spelling.{counted};
-ghost use Rattle.meta_journal.specs.Snapshots.{checkpoint_spelled, task_spelled, span_spelled, state_number, row_spelled, offsets_spelled, retired_spelled, body_spelled, parts_spelled, CanSpellParts};
+ghost use Rattle.meta_journal.specs.Snapshots.{checkpoint_spelled, task_spelled, span_spelled, state_number, row_spelled, offsets_spelled, retired_spelled, body_spelled, parts_spelled};
 
 use crate::state_parts::{AskedTask, Offsets, RetiredRanges, StateParts};
 use crate::writing::{put_facts, put_range, put_texts};
@@ -154,7 +154,6 @@ pub fn encode_with_rows(
     state: &StateParts,
     rows: &[Row],
 ) -> Result<Bytes, AllocError>
-    requires { CanSpellParts (record state.now { rows = rows.now }) }
     ensures { IfOk result (λ bytes. bytes ≡ parts_spelled (record state.now { rows = rows.now })) }
 {
     let mut out = Vec::new(alloc);
@@ -166,7 +165,6 @@ pub fn encode_with_rows(
 
 /// The bytes of a state's parts, in format 2.
 pub fn encode_state(alloc: Global, state: &StateParts) -> Result<Bytes, AllocError>
-    requires { CanSpellParts state.now }
     ensures { IfOk result (λ bytes. bytes ≡ parts_spelled state.now) }
 {
     encode_with_rows(alloc, state, state.rows.as_slice())

@@ -1,7 +1,7 @@
 //! What the state is made of, for a snapshot.
 
 ghost use Rattle.std.specs.Prelude.{◌≡◌, ◌++◌, OnOk, IfOk};
-ghost use Rattle.meta_journal.specs.Snapshots.{parts_spelled, CanSpellParts};
+ghost use Rattle.meta_journal.specs.Snapshots.{parts_spelled};
 ghost use Rattle.meta_store.specs.Parts as spec;
 
 use crate::config::{Config, TaskAsk};
@@ -183,7 +183,6 @@ impl Meta {
 
     /// The bytes of a snapshot of the state. No row is copied.
     pub fn snapshot(&self, alloc: Global) -> Result<Bytes, AllocError>
-        requires { CanSpellParts (spec.parts_of self.now.state) }
         ensures { IfOk result (λ bytes. bytes ≡ parts_spelled (spec.parts_of self.now.state)) }
     {
         let parts = self.parts_with(alloc, List::vacant(alloc))?;

@@ -32,9 +32,7 @@ pub fn snapshot_again(alloc: Global, digits: &str) -> Result<String, AllocError>
     }
 }
 
-fn snapshot_spelled(alloc: Global, state: &StateParts) -> Result<String, AllocError>
-    requires { CanSpellParts state.now }
-{
+fn snapshot_spelled(alloc: Global, state: &StateParts) -> Result<String, AllocError> {
     let bytes = encode_state(alloc, state)?;
     hexadecimal(alloc, bytes.as_slice())
 }
