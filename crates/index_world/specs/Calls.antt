@@ -1,7 +1,7 @@
 -- What the calls of the store and of the world do to a core, given the fate of each call. With a calm fate (nothing lands,
 -- nothing fails, memory is there) each is a function of the core alone.
-use Rattle.std.specs.Prelude.{ℕ, ◌+◌, ◌==◌, ◌&&◌, ◌||◌, Bool, true, false, List, [], ◌∷◌, ◌++◌, length, map, min, max, nat_lt, nat_le, remove, slice_get, Option, Some, None, is_some, Result, Ok, Err, ⊤, not, filter, bytes_eq}
-use Rattle.meta_journal.specs.Places.{meta_key, split_key}
+use Rattle.std.specs.Prelude.{ℕ, zero, suc, ◌+◌, ◌==◌, ◌&&◌, ◌||◌, Bool, true, false, List, [], ◌∷◌, ◌++◌, length, map, min, max, nat_lt, nat_le, remove, slice_get, Option, Some, None, is_some, Result, Ok, Err, ⊤, not, filter, bytes_eq, if◌then◌else◌}
+use Rattle.meta_journal.specs.Places.{meta_key, split_key, snap_key}
 use Rattle.meta_journal.specs.Spelling.{spelling}
 use Rattle.meta_journal.specs.declared.entry.Act.{Act}
 use Rattle.meta_journal.specs.declared.entry.Act.TheVariants.{Fence, Create, Stage, Publish, Replace, Raise, Task, MarkStaged, Remove, Retire}
@@ -13,7 +13,7 @@ use Rattle.meta_store.specs.State.{state_of}
 use Rattle.meta_store.specs.declared.refusal.Refusal.{Refusal}
 use Rattle.index_world.specs.Config.{reads}
 use Rattle.index_world.specs.Index.{max_entries}
-use Rattle.index_world.specs.Core.{file_at, Late, late_entry, late_dead, late_file, Core, Marking, last_count}
+use Rattle.index_world.specs.Core.{File, file_at, journal_of, Late, late_entry, late_dead, late_file, Core, Marking, last_count}
 
 -- what becomes of the work of a call that fails: it is done at once, it may be yet, or it never is
 pub data Effect : Type 0 where
@@ -39,6 +39,7 @@ pub record Call : Type 0 where
 -- the fate of one call of the world: whether it finds no memory before it asks the clock, and its calls of the store
 pub record Fate : Type 0 where
   pub unasked : Bool
+  pub snaps : Call  -- what opening does until the last snapshot is known
   pub first : Call
   pub second : Call
   pub third : Call
@@ -433,30 +434,44 @@ abbrev pub with_standing : Option Entry → Core → Core
 with_standing None core = core
 with_standing (Some entry) core = taken_in entry core
 
--- a new life: the moments of the old one are forgotten, and nothing is unsure
-abbrev pub reborn : Core → Core
-reborn core = record core { moment = moment_of (history core.history); unsure = false; marks = []; doomed = [] }
+-- the greatest number up to this one under which a snapshot stands, 0 for none
+abbrev pub snap_upto : List File → ℕ → ℕ
+snap_upto files zero = 0
+snap_upto files (suc n) = if is_some (file_at files (snap_key (suc n))) then suc n else snap_upto files n
 
-abbrev pub read_journal : Core → Core
-read_journal core = reborn (with_standing core.standing core)
+-- how many entries the last snapshot has
+abbrev pub last_snap : Core → ℕ
+last_snap core = snap_upto core.files (length (journal_of core))
+
+-- a new life behind a snapshot: the moments of the old one are forgotten, and nothing is unsure
+abbrev pub reborn : ℕ → Core → Core
+reborn snapped core = record core { moment = moment_of (history core.history); unsure = false; marks = []; doomed = []; snapped = snapped }
+
+abbrev pub read_journal : ℕ → Core → Core
+read_journal snapped core = reborn snapped (with_standing core.standing core)
 
 abbrev pub unless_empty : Bool → Core → Gives Unread ⊤
 unless_empty true core = gives (Err no_index) core
 unless_empty false core = gives (Ok tt) core
 
-abbrev pub load_by : Bool → Bool → Call → ℕ → Core → Gives Unread ⊤
-load_by true fails second before core = gives (Err (not_read no_memory)) (begun second core)
-load_by false true second before core =
+abbrev pub load_by : Bool → Bool → Call → ℕ → (snapped : ℕ) → Core → Gives Unread ⊤
+load_by true fails second before snapped core = gives (Err (not_read no_memory)) (begun second core)
+load_by false true second before snapped core =
     gives (Err (not_read (store_failed before (begun second core)))) (begun second core)
-load_by false false second before core =
-    unless_empty (length (read_journal core).history == 0) (begun second (read_journal core))
+load_by false false second before snapped core =
+    unless_empty (length (read_journal snapped core).history == 0) (begun second (read_journal snapped core))
 
--- A new life reads the journal up to its end. What lands as the first call begins is read, what lands later is not.
+abbrev pub loaded_behind : (snapped : ℕ) → (short fails : Bool) → Fate → (before : ℕ) → Core → Gives Unread ⊤
+loaded_behind snapped short fails fate before core =
+    load_by (short || (fate.first.short || fate.second.short))
+    (fails || (may_fail fate.first core.store_faults || may_fail fate.second (begun fate.first core).store_faults))
+    fate.second before snapped (begun fate.first core)
+
+-- A new life begins with the last snapshot that stands, and reads the journal from there up to its end. What lands as the first call of
+-- each begins is read, what lands later is not.
 abbrev pub loaded : Fate → Core → Gives Unread ⊤
 loaded fate core =
-    load_by (fate.first.short || fate.second.short)
-    (may_fail fate.first core.store_faults || may_fail fate.second (begun fate.first core).store_faults)
-    fate.second core.store_faults (begun fate.first core)
+    loaded_behind (last_snap (begun fate.snaps core)) fate.snaps.short (may_fail fate.snaps core.store_faults) fate core.store_faults (begun fate.snaps core)
 
 -- ---- a calm fate
 
@@ -464,4 +479,4 @@ abbrev pub calm_call : Call
 calm_call = record { lands = []; fails = false; effect = done_never; rises = 0; short = false }
 
 abbrev pub calm_fate : Fate
-calm_fate = record { unasked = false; first = calm_call; second = calm_call; third = calm_call }
+calm_fate = record { unasked = false; snaps = calm_call; first = calm_call; second = calm_call; third = calm_call }

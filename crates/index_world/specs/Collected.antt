@@ -29,7 +29,7 @@ pub record DoomsAs (new : State) (core : Core) (log : Log) (number : ℕ) (answe
   pub faults : after.store_faults ≡ now
   pub moment : after.moment ≡ core.moment
   pub clock : clock_of after ≡ clock_of core
-  pub upkeep : upkeep_of after ≡ record { marks = core.marks; doomed = doomed_behind answer number core.doomed }
+  pub upkeep : upkeep_of after ≡ record { marks = core.marks; doomed = doomed_behind answer number core.doomed; snapped = core.snapped }
   pub unsure : after.unsure ≡ core.unsure
 
 -- the delete of the file of a number whose row is gone

@@ -54,6 +54,7 @@ pub record Core : Type 0 where
   pub late : List Late  -- the creates that failed and may land later, in the store's order
   pub marks : List Marking  -- what this life marked
   pub doomed : List ℕ  -- the numbers whose files this life deleted while they had a row
+  pub snapped : ℕ  -- how many entries the last snapshot has: the one that this life was opened from or wrote, 0 for none
 
 abbrev pub is_in : List ℕ → ℕ → Bool
 is_in numbers number = list_any (λ n. n == number) numbers
@@ -66,17 +67,18 @@ last_count = 2 ^ 64 - 1
 abbrev pub clock_of : Core → ℕ × Bool
 clock_of core = (core.clock, core.frozen)
 
--- what a life noted: which marking it took in when, and whose files it deleted while they had a row
+-- what a life noted: which marking it took in when, whose files it deleted while they had a row, and its last snapshot
 pub record Upkeep : Type 0 where
   pub marks : List Marking
   pub doomed : List ℕ
+  pub snapped : ℕ
 
 abbrev pub upkeep_of : Core → Upkeep
-upkeep_of core = record { marks = core.marks; doomed = core.doomed }
+upkeep_of core = record { marks = core.marks; doomed = core.doomed; snapped = core.snapped }
 
--- it noted nothing yet
-abbrev pub no_upkeep : Upkeep
-no_upkeep = record { marks = []; doomed = [] }
+-- it noted nothing yet, behind a snapshot of so many entries
+abbrev pub no_upkeep : ℕ → Upkeep
+no_upkeep snapped = record { marks = []; doomed = []; snapped = snapped }
 
 -- these entries, and the one that stands unread behind them
 abbrev pub with_unread : List Entry → Option Entry → List Entry

@@ -1,11 +1,11 @@
 -- What making an index does: to any store that tells, and in the words of the core to one that is a sound index.
-use Rattle.std.specs.Prelude.{◌≡◌, ◌⊎◌, ◌≤◌, ◌<◌, ◌^◌, ℕ, false, List, [], ◌∷◌, ◌++◌, length, Option, Some, None, IfSome, IsOk, Result, Ok, Err, ⊤}
+use Rattle.std.specs.Prelude.{◌≡◌, ◌⊎◌, ◌+◌, ◌≤◌, ◌<◌, ◌^◌, ℕ, false, List, [], ◌∷◌, ◌++◌, length, Option, Some, None, IfSome, IsOk, Result, Ok, Err, ⊤}
 use Rattle.byte_fields.specs.Causes.{Rose}
 use Rattle.index_config.specs.Answer.{config_answer}
 use Rattle.index_config.specs.declared.config.IndexConfig.{IndexConfig}
 use Rattle.index_config.specs.declared.config_error.ConfigError.{ConfigError}
 use Rattle.meta_journal.specs.Journal.{Tries, create_failed, IsCorrupt}
-use Rattle.meta_journal.specs.Loading.{IsLoaded, IsSpoilt, IsForeign}
+use Rattle.meta_journal.specs.Loading.{IsLoaded, IsSpoilt}
 use Rattle.meta_journal.specs.Places.{HasEntry}
 use Rattle.meta_journal.specs.declared.entry.Act.TheVariants.{Create}
 use Rattle.meta_journal.specs.declared.entry.Entry.{Entry}
@@ -13,12 +13,14 @@ use Rattle.meta_journal.specs.declared.journal_error.JournalError.{JournalError}
 use Rattle.meta_journal.specs.declared.journal_error.JournalError.TheVariants as journal
 use Rattle.meta_store.specs.History.{history}
 use Rattle.meta_store.specs.State.{state_of}
+use Rattle.meta_store.specs.State as meta
 use Rattle.object_store.specs.Store.{State, HasLanded}
 use Rattle.source_log.specs.Log.{Log}
 use Rattle.index_world.specs.Calls.{Call, Fate, Gives, gives, Made, made, exists, failed, Making, create_at_end, taken_in, Trouble, faulted, no_memory, store_fault, store_failed, Unread, not_read, no_index, loaded, or_short, asked_clock, entry_of}
 use Rattle.index_world.specs.Config.{reads}
 use Rattle.index_world.specs.Core.{Core, KeepsBut, journal_of, no_upkeep, taken_at, is_in}
 use Rattle.index_world.specs.Life.{LifeIs}
+use Rattle.index_world.specs.Opened.{HasNoSnap, IsSpoiltSnap, IsForeignSnap, Behind, MeetsForeign}
 use Rattle.index_world.specs.Taking.{of_journal}
 use Rattle.index_world.specs.World.{IsWorld, Keeping, WorldStands}
 use Rattle.index_world.specs.declared.life.Life.{Life}
@@ -35,9 +37,15 @@ IsToldBy clock moment = IfSome clock (λ told. moment ≡ told)
 
 -- ---- over any store that tells
 
--- The journal had no entry as it was listed, no other key stood under `meta/`, and the text is a configuration.
+-- No key stood under `snap/`, the journal had no entry as it was listed, and no other key stood under `meta/`.
+pub record IsVacant (old new : State) : Type 0 where
+  pub mid : State
+  pub none : HasNoSnap old mid
+  pub vacant : IsLoaded 0 [] mid new
+
+-- ... and the text is a configuration
 pub record MayBegin (text : List ℕ) (old mid : State) : Type 0 where
-  pub vacant : IsLoaded [] old mid
+  pub vacant : IsVacant old mid
   pub config : IsOk (config_answer text)
 
 -- ... and behind that this was done
@@ -59,9 +67,13 @@ FirstLanded mid new = (entry : Entry) × HasLanded mid new × HasEntry new 0 ent
 abbrev pub SpoiltLanded : List ℕ → State → State → Type 0
 SpoiltLanded key mid new = HasLanded mid new × IsCorrupt new 0 key
 
--- the journal has an entry
-abbrev pub HasEntries : State → State → Type 0
-HasEntries old new = (first : Entry) × (more : List Entry) × IsLoaded (first ∷ more) old new
+-- a snapshot stands, or the journal has an entry
+abbrev pub HasEntries : meta.State → State → State → Type 0
+HasEntries start mid new = (entries : List Entry) × (0 < start.revision + length entries) × IsLoaded start.revision entries mid new
+
+-- the first object of the journal behind the snapshot that is no entry
+abbrev pub IsSpoiltBehind : List ℕ → meta.State → State → State → Type 0
+IsSpoiltBehind key start mid new = IsSpoilt start.revision key mid new
 
 -- Why none was made, with these counts of faults at the start and now. A text that is no configuration changes nothing.
 abbrev pub CreatesNot : (text : List ℕ) (clock : Option ℕ) (before now : ℕ) → WorldError → State → State → Type 0
@@ -70,13 +82,13 @@ CreatesNot text clock before now (errors.Refused refusal) old new = ⊥
 CreatesNot text clock before now (errors.StoreFault low high) old new =
     (HasLanded old new ⊎ Begins text (TriesFirst text clock) old new) × (low ≡ before) × (high ≡ now) × Rose before now
 CreatesNot text clock before now (errors.Missing key) old new = ⊥
-CreatesNot text clock before now (errors.Corrupt key) old new = IsSpoilt key old new ⊎ Begins text (SpoiltLanded key) old new
-CreatesNot text clock before now (errors.Foreign key) old new = HasLanded old new × IsForeign new key
+CreatesNot text clock before now (errors.Corrupt key) old new = IsSpoiltSnap key old new ⊎ (Behind (IsSpoiltBehind key) old new ⊎ Begins text (SpoiltLanded key) old new)
+CreatesNot text clock before now (errors.Foreign key) old new = IsForeignSnap key old new ⊎ Behind (MeetsForeign key) old new
 CreatesNot text clock before now errors.Full old new = ⊥
 CreatesNot text clock before now (errors.Expired planned_at reached) old new = ⊥
 CreatesNot text clock before now errors.NoIndex old new = ⊥
-CreatesNot text clock before now errors.IndexExists old new = HasEntries old new ⊎ Begins text FirstLanded old new
-CreatesNot text clock before now (errors.BadConfig error) old new = IsLoaded [] old new × (config_answer text ≡ Err error)
+CreatesNot text clock before now errors.IndexExists old new = Behind HasEntries old new ⊎ Begins text FirstLanded old new
+CreatesNot text clock before now (errors.BadConfig error) old new = IsVacant old new × (config_answer text ≡ Err error)
 
 -- Over all stores: which errors may come, and that one of a text comes only where the text is no configuration.
 abbrev pub IsOfCreate : (text : List ℕ) → WorldError → Type 0
@@ -106,6 +118,7 @@ pub record CreatesIndex (text : List ℕ) (clock : Option ℕ) (world : Keeping)
   pub frozen : world.frozen ≡ false
   pub marks : (n : ℕ) → taken_at world.marks n ≡ 0
   pub doomed : (n : ℕ) → is_in world.doomed n ≡ false
+  pub snapped : world.snapped ≡ 0
 
 -- the same of a life
 pub record CreatesLife (text : List ℕ) (clock : Option ℕ) (life : Life) (old new : State) : Type 0 where
@@ -113,7 +126,7 @@ pub record CreatesLife (text : List ℕ) (clock : Option ℕ) (life : Life) (old
   pub asked : IsToldBy clock moment
   pub below : moment < 2 ^ 62
   pub begins : Begins text (MakesFirst text moment) old new
-  pub knows : LifeIs life (create_at text moment ∷ []) moment false no_upkeep
+  pub knows : LifeIs life (create_at text moment ∷ []) moment false (no_upkeep 0)
 
 abbrev pub CreatesTo : (text : List ℕ) (clock : Option ℕ) (before now : ℕ) → Result Life WorldError → State → State → Type 0
 CreatesTo text clock before now (Ok life) old new = CreatesLife text clock life old new

@@ -29,6 +29,7 @@ use Rattle.index_world.specs.Configuration.{configuration}
 use Rattle.index_world.specs.Seen.{contents, replaced, accepted_in, rejected_in}
 use Rattle.split_bundle.specs.Splits.{IsSplit}
 use Rattle.index_world.specs.SplitFile.{file_of, facts_of, AreSplit}
+use Rattle.index_world.specs.Snaps.{AreSnaps}
 
 abbrev pub max_entries : ℕ
 max_entries = 10000000
@@ -182,6 +183,7 @@ IsLateEntry kept entries log object = is_meta object.0 ≡ true →
 pub record IsIndexOf (kept : State) (entries : List Entry) (log : Log) : Type 0 where
   pub stands : Stands kept entries log
   pub late_entries : AllByRecursion (IsLateEntry kept entries log) kept.late
+  pub snaps : AreSnaps kept entries
 
 abbrev pub IsIndex : State → Log → Type 0
 IsIndex kept log = (entries : List Entry) × IsIndexOf kept entries log
@@ -236,6 +238,7 @@ IsBelowOrAgain kept entries log object = is_meta object.0 ≡ true →
 pub record IsWholeIndexOf (kept : State) (entries : List Entry) (log : Log) : Type 0 where
   pub stands : Stands kept entries log
   pub late_entries : AllByRecursion (IsBelowOrAgain kept entries log) kept.late
+  pub snaps : AreSnaps kept entries
 
 -- bytes are read as one entry
 abbrev pub OneEntry : Type 0

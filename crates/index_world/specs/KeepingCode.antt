@@ -26,8 +26,8 @@ marking_code = code_by (ℕ × ℕ) (coded× coded_ℕ coded_ℕ) (λ m. (m.numb
 
 abbrev pub keeping_code : Coded Keeping
 keeping_code =
-    code_by ((Option State × (ℕ × (ℕ × Option ℕ))) × ((ℕ × (meta.State × ℕ)) × ((Bool × Bool) × (List Marking × List ℕ))))
-    (coded× (coded× (coded_option store_code) (coded× coded_ℕ (coded× coded_ℕ (coded_option coded_ℕ)))) (coded× (coded× coded_ℕ (coded× state_code coded_ℕ)) (coded× (coded× coded_bool coded_bool) (coded× (coded_list marking_code) (coded_list coded_ℕ)))))
-    (λ k. ((k.told, (k.store_faults, (k.given, k.clock))), ((k.moment, (k.meta, k.next)), ((k.unsure, k.frozen), (k.marks, k.doomed)))))
-    (λ p. record { told = p.0.0; store_faults = p.0.1.0; given = p.0.1.1.0; clock = p.0.1.1.1; moment = p.1.0.0; meta = p.1.0.1.0; next = p.1.0.1.1; unsure = p.1.1.0.0; frozen = p.1.1.0.1; marks = p.1.1.1.0; doomed = p.1.1.1.1 })
+    code_by ((Option State × (ℕ × (ℕ × Option ℕ))) × ((ℕ × (meta.State × ℕ)) × ((Bool × Bool) × (List Marking × (List ℕ × ℕ)))))
+    (coded× (coded× (coded_option store_code) (coded× coded_ℕ (coded× coded_ℕ (coded_option coded_ℕ)))) (coded× (coded× coded_ℕ (coded× state_code coded_ℕ)) (coded× (coded× coded_bool coded_bool) (coded× (coded_list marking_code) (coded× (coded_list coded_ℕ) coded_ℕ)))))
+    (λ k. ((k.told, (k.store_faults, (k.given, k.clock))), ((k.moment, (k.meta, k.next)), ((k.unsure, k.frozen), (k.marks, (k.doomed, k.snapped))))))
+    (λ p. record { told = p.0.0; store_faults = p.0.1.0; given = p.0.1.1.0; clock = p.0.1.1.1; moment = p.1.0.0; meta = p.1.0.1.0; next = p.1.0.1.1; unsure = p.1.1.0.0; frozen = p.1.1.0.1; marks = p.1.1.1.0; doomed = p.1.1.1.1.0; snapped = p.1.1.1.1.1 })
     (λ _. refl)

@@ -3,6 +3,7 @@ pub mod Configuration
 pub mod Accepted
 pub mod Seen
 pub mod SplitFile
+pub mod Snaps
 pub mod Index
 pub mod Core
 pub mod Calls

@@ -28,7 +28,7 @@ use Rattle.index_world.specs.Collecting.{Offer}
 use Rattle.index_world.specs.Gate.{IsTrouble, IsUnmade, SaysWith}
 use Rattle.index_world.specs.Index.{has_staged}
 use Rattle.index_world.specs.Loading.{LoadsAs, IsUnread}
-use Rattle.index_world.specs.Opened.{Finds, all_found, OpensNot}
+use Rattle.index_world.specs.Opened.{BeginsAt, Finds, all_found, state_behind, OpensNot}
 use Rattle.index_world.specs.Owning.{act_in, offer_in, own_offer}
 use Rattle.index_world.specs.declared.own.Outcome.{Outcome}
 use Rattle.index_world.specs.declared.own.Outcome.TheVariants as outcomes
@@ -45,8 +45,9 @@ pub record LifeIs (life : Life) (entries : List Entry) (time : ℕ) (doubt : Boo
   pub meta : life.meta.state ≡ state_of reads (history entries)
   pub marks : (n : ℕ) → taken_at life.marks.items n ≡ taken_at upkeep.marks n
   pub doomed : (n : ℕ) → is_in life.doomed.numbers.items n ≡ is_in upkeep.doomed n
+  pub snapped : life.snapped ≡ upkeep.snapped
 
--- it noted nothing
+-- it noted nothing behind its snapshot
 abbrev pub NotesNothing : Life → Type 0
 NotesNothing life = (life.marks.items ≡ []) × (life.doomed.numbers.items ≡ [])
 
@@ -66,7 +67,7 @@ reading_in state act = reading_of reads state.config act
 
 -- what it noted stays
 abbrev pub SameUpkeep : Life → Life → Type 0
-SameUpkeep old new = (new.marks.items ≡ old.marks.items) × (new.doomed ≡ old.doomed)
+SameUpkeep old new = (new.marks.items ≡ old.marks.items) × (new.doomed ≡ old.doomed) × (new.snapped ≡ old.snapped)
 
 -- it was taken in
 pub record TookIn (old : Life) (entry : Entry) (new : Life) : Type 0 where
@@ -75,6 +76,7 @@ pub record TookIn (old : Life) (entry : Entry) (new : Life) : Type 0 where
   pub moment : entry.moment < 2 ^ 62 → new.moment ≡ max old.moment entry.moment
   pub marks : entry.moment < 2 ^ 62 → new.marks.items ≡ old.marks.items ++ marks_of entry.act (max old.moment entry.moment)
   pub doomed : new.doomed ≡ old.doomed
+  pub snapped : new.snapped ≡ old.snapped
 
 -- It was not, which an entry that may come next meets by want of memory alone. Any other is refused with the key of its number.
 pub record TookNone (old : Life) (entry : Entry) (error : WorldError) (new : Life) : Type 0 where
@@ -292,9 +294,16 @@ pub record Opening (core : Core) (log : Log) (result : Result Life WorldError) (
 
 -- the index was opened of a store that tells, whatever it is
 pub record FindsLife (life : Life) (old new : State) : Type 0 where
+  pub start : meta.State
+  pub mid : State
+  pub begins : BeginsAt life.snapped start old mid
   pub entries : List Entry
-  pub finds : Finds (all_found entries) old new
-  pub knows : LifeIs life entries (moment_of (history entries)) false no_upkeep
+  pub finds : Finds start (all_found entries) mid new
+  pub next : life.journal.next ≡ start.revision + length entries
+  pub unsure : is_unsure life.journal.place ≡ false
+  pub meta : life.meta.state ≡ state_behind start entries
+  pub moment : life.moment ≡ life.meta.state.moment
+  pub notes : NotesNothing life
 
 abbrev pub OpensTo : (before now : ℕ) → Result Life WorldError → State → State → Type 0
 OpensTo before now (Ok life) old new = FindsLife life old new

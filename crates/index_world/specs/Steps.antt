@@ -24,7 +24,7 @@ quiet places rises short = record { lands = places; fails = false; effect = done
 
 -- what is noted of an entry that is taken in at a moment
 abbrev pub noting : (moment : ℕ) → Upkeep → Entry → Upkeep
-noting moment upkeep entry = record { marks = upkeep.marks ++ marks_of entry.act (max moment entry.moment); doomed = upkeep.doomed }
+noting moment upkeep entry = record { marks = upkeep.marks ++ marks_of entry.act (max moment entry.moment); doomed = upkeep.doomed; snapped = upkeep.snapped }
 
 -- a create behind the history made its entry
 pub record MadeLaw (old new : State) (core : Core) (log : Log) (entry : Entry) (now : ℕ) : Type 0 where

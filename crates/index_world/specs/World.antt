@@ -32,8 +32,8 @@ pub record IsTimely (core : Core) : Type 0 where
   pub doomed : AllByRecursion (MayFree core) core.doomed
 
 -- what a world keeps: what its store tells, counts and gave, what its clock tells, its moment, its state, the number behind the
--- entries that it took in, whether that one is unsure, whether the clock is asked no more, which markings this life took in when, and which
--- files it deleted whose rows stood
+-- entries that it took in, whether that one is unsure, whether the clock is asked no more, which markings this life took in when, which
+-- files it deleted whose rows stood, and how many entries its last snapshot has
 pub record Keeping : Type 0 where
   pub told : Option State
   pub store_faults : ℕ
@@ -46,6 +46,7 @@ pub record Keeping : Type 0 where
   pub frozen : Bool
   pub marks : List Marking
   pub doomed : List ℕ
+  pub snapped : ℕ
 
 -- a world that keeps this stands for the core, over the log
 pub record WorldStands (keeping : Keeping) (core : Core) (log : Log) : Type 0 where
@@ -63,6 +64,7 @@ pub record WorldStands (keeping : Keeping) (core : Core) (log : Log) : Type 0 wh
   -- when this life took in which marking, and what it doomed, in whatever order they are kept
   pub marks : (n : ℕ) → taken_at keeping.marks n ≡ taken_at core.marks n
   pub doomed : (n : ℕ) → is_in keeping.doomed n ≡ is_in core.doomed n
+  pub snapped : keeping.snapped ≡ core.snapped
   -- an index that was opened has an entry
   pub opened : 0 < length core.history
 

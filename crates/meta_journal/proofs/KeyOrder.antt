@@ -8,7 +8,7 @@ use Rattle.std.specs.Cmp.Lexicographic.{slice_cmp, nat_list_cmp_total}
 use Rattle.std.proofs.Math.Nat.{pow-suc, mod-lt, mod-eq_of_lt, mul-le-mul_right}
 use Rattle.std.proofs.Math.Arith.{mod-mul}
 use Rattle.object_store.proofs.States.{tied}
-use Rattle.meta_journal.specs.Places.{digits, meta_key}
+use Rattle.meta_journal.specs.Places.{digits, meta_key, snap_key}
 
 abbrev pub IsLess : List ℕ → List ℕ → Type 0
 IsLess a b = slice_cmp nat_cmp a b ≡ Less
@@ -75,6 +75,23 @@ keys_rise m n lt small =
     let m_is : m % 10 ^ 20 ≡ m = mod-eq_of_lt (omega arith) in
     let n_is : n % 10 ^ 20 ≡ n = mod-eq_of_lt (omega arith) in
     digits_rise 20 m n (rw (m_is, n_is) lt)
+
+pub snap_keys_rise : (m n : ℕ) → m < n → n < 2 ^ 64 → IsLess (snap_key m) (snap_key n)
+unfolding snap_key
+snap_keys_rise m n lt small =
+    let m_is : m % 10 ^ 20 ≡ m = mod-eq_of_lt (omega arith) in
+    let n_is : n % 10 ^ 20 ≡ n = mod-eq_of_lt (omega arith) in
+    digits_rise 20 m n (rw (m_is, n_is) lt)
+
+-- two snapshots' keys are apart
+pub snap_key-injective : (m n : ℕ) → m < 2 ^ 64 → n < 2 ^ 64 → snap_key m ≡ snap_key n → m ≡ n
+snap_key-injective m n low high same = elim (three m n) [
+  | inl lt ↦ absurd (never_less_itself (snap_key m) (subst (λ (k : List ℕ). IsLess (snap_key m) k) (sym same) (snap_keys_rise m n lt high)))
+  | inr other ↦ elim other [
+    | inl e ↦ e
+    | inr gt ↦ absurd (never_less_itself (snap_key n) (subst (λ (k : List ℕ). IsLess (snap_key n) k) same (snap_keys_rise n m gt low)))
+  ]
+]
 
 -- no key is below that of a number that is not above its own
 pub not_below : (m n : ℕ) → n ≤ m → m < 2 ^ 64 → IsLess (meta_key m) (meta_key n) → ⊥
