@@ -7,18 +7,22 @@ use Rattle.byte_fields.specs.declared.calls.Failed.{Failed}
 use Rattle.delete_tasks.specs.Removes.{DeleteTask}
 use Rattle.index_config.specs.declared.config.IndexConfig.{IndexConfig}
 use Rattle.meta_journal.specs.Journal.{IsCorrupt}
-use Rattle.meta_journal.specs.Places.{meta_key, split_key, numbered, HasEntry, Stand}
+use Rattle.meta_journal.specs.Places.{meta_key, split_key, snap_key, numbered, HasEntry, Stand}
+use Rattle.meta_journal.specs.Snapshots.{parts_spelled}
 use Rattle.meta_journal.specs.declared.entry.Act.{Act}
-use Rattle.meta_journal.specs.declared.entry.Act.TheVariants.{Stage, Publish, Replace, Raise, Task, MarkStaged, Remove}
+use Rattle.meta_journal.specs.declared.entry.Act.TheVariants.{Stage, Publish, Replace, Raise, Task, MarkStaged, Remove, Retire}
 use Rattle.meta_journal.specs.declared.entry.Entry.{Entry}
 use Rattle.meta_store.specs.Answers.{Answer, answer_to}
 use Rattle.meta_store.specs.History.{at}
+use Rattle.meta_store.specs.Parts.{parts_of}
 use Rattle.meta_store.specs.Planning.{rows_for, planned_as}
 use Rattle.meta_store.specs.Readings.{reading_of}
 use Rattle.meta_store.specs.State.{after}
 use Rattle.meta_store.specs.State as meta
 use Rattle.meta_store.specs.declared.planning.Choice.{Choice}
-use Rattle.object_store.specs.Store.{State, WhereTold, HasLanded, LandsThen, Deletes, is_behind}
+use Rattle.object_store.specs.Store.{State, WhereTold, HasLanded, LandsThen, Creates, Deletes, is_behind}
+use Rattle.object_store.specs.declared.store.CreateError.{CreateError}
+use Rattle.object_store.specs.declared.store.CreateError.TheVariants as creates
 use Rattle.object_store.specs.declared.store.Piece.{Piece}
 use Rattle.source_checkpoint.specs.declared.delta.Part.{Part}
 use Rattle.split_states.specs.Due.{stale_rows}
@@ -27,11 +31,12 @@ use Rattle.split_states.specs.declared.rows.Row.{Row}
 use Rattle.index_world.specs.Asked.{FetchesFile, IsFetch, IsInTime, IsUpload, UploadsFile}
 use Rattle.index_world.specs.Calls.{asked_moment}
 use Rattle.index_world.specs.Collected.{SweepsFile}
-use Rattle.index_world.specs.Collecting.{doomed_rows, is_past, is_swept_by, may_go_by}
+use Rattle.index_world.specs.Collecting.{doomed_rows, old_rows, is_past, is_swept_by, may_go_by}
 use Rattle.index_world.specs.Config.{reads}
 use Rattle.index_world.specs.Core.{is_in}
 use Rattle.index_world.specs.Configuration.{config_or, index_of}
 use Rattle.index_world.specs.Index.{max_entries}
+use Rattle.index_world.specs.Snapping.{is_due_at}
 use Rattle.index_world.specs.PlanTasks.{plan_tasks, tasks_upto}
 use Rattle.index_world.specs.Taking.{IsFaultBetween}
 use Rattle.index_world.specs.World.{Keeping}
@@ -62,6 +67,8 @@ pub data Answered : Type 0 where
   remove_answered : Result ℕ WorldError → Answered
   list_answered : (behind : Option (List ℕ)) → Result SweepPage WorldError → Answered
   sweep_answered : (number : ℕ) → Result Bool WorldError → Answered
+  retire_answered : Result ℕ WorldError → Answered
+  snapshot_answered : Result (Option ℕ) WorldError → Answered
   fetch_answered : (number planned_at from len : ℕ) → Result Piece WorldError → Answered
 
 -- ---- an entry and the state
@@ -236,6 +243,9 @@ stale_in world state = stale_rows world.moment (kept_config world).staged_grace 
 abbrev pub doomed_in : Keeping → meta.State → List ℕ
 doomed_in world state = doomed_rows world.doomed state.rows
 
+abbrev pub old_in : Keeping → meta.State → List ℕ
+old_in world state = old_rows world.moment (kept_config world).retention state.rows
+
 -- the least row that may go, by what is kept and this moment
 abbrev pub next_in : Keeping → (moment : ℕ) → Option Row
 next_in world moment = find (may_go_by (kept_config world).deletion_grace world.marks world.doomed moment) world.meta.rows
@@ -262,6 +272,33 @@ SaysDoomed (Err (errors.Expired planned_at reached)) old new was now = ⊥
 SaysDoomed (Err errors.NoIndex) old new was now = ⊥
 SaysDoomed (Err errors.IndexExists) old new was now = ⊥
 SaysDoomed (Err (errors.BadConfig bad)) old new was now = ⊥
+
+-- ---- a snapshot
+
+-- its create under the key of the state that is kept
+abbrev pub TriesSnap : meta.State → Result (Unit {0}) CreateError → State → State → Type 0
+TriesSnap state answer = LandsThen (Creates (snap_key state.revision) (parts_spelled (parts_of state)) answer)
+
+-- it was made, or stood already
+abbrev pub IsSnapMade : meta.State → State → Type 0
+IsSnapMade state now = (mid : State) × (TriesSnap state (Ok tt) mid now ⊎ TriesSnap state (Err creates.Exists) mid now)
+
+-- It was due, and was made or stood; or it was not, and nothing was made. The state is the one that is kept behind.
+abbrev pub SaysSnapped : Result (Option ℕ) WorldError → Keeping → Keeping → State → State → Type 0
+SaysSnapped (Ok (Some revision)) old new was now =
+    (is_due_at old.snapped new.meta.revision ≡ true) × (revision ≡ new.meta.revision) × (new.snapped ≡ revision) × (new.unsure ≡ false) × IsSnapMade new.meta now
+SaysSnapped (Ok None) old new was now = (is_due_at old.snapped new.meta.revision ≡ false) × (new.snapped ≡ old.snapped) × (new.unsure ≡ false)
+SaysSnapped (Err (errors.StoreFault before after)) old new was now = new.snapped ≡ old.snapped
+SaysSnapped (Err (errors.Memory e)) old new was now = new.snapped ≡ old.snapped
+SaysSnapped (Err (errors.Corrupt key)) old new was now = IsUnfitAt now new.next new.meta key × (new.snapped ≡ old.snapped)
+SaysSnapped (Err (errors.Refused refusal)) old new was now = ⊥
+SaysSnapped (Err (errors.Missing key)) old new was now = ⊥
+SaysSnapped (Err (errors.Foreign key)) old new was now = ⊥
+SaysSnapped (Err errors.Full) old new was now = ⊥
+SaysSnapped (Err (errors.Expired planned_at reached)) old new was now = ⊥
+SaysSnapped (Err errors.NoIndex) old new was now = ⊥
+SaysSnapped (Err errors.IndexExists) old new was now = ⊥
+SaysSnapped (Err (errors.BadConfig bad)) old new was now = ⊥
 
 -- a number that was staged, whose row is gone by what is kept, and whose file stands between two keys
 abbrev pub is_left_in : Keeping → State → (behind next : Option (List ℕ)) → ℕ → Bool
@@ -302,6 +339,8 @@ IsAnswer (plan_answered choice result) old new = Tells result old new (λ was no
 IsAnswer (tasks_answered upto result) old new = (new ≡ old) × IfOk result (λ tasks. tasks ≡ tasks_upto upto old.meta.tasks)
 IsAnswer (mark_stale_answered result) old new = Tells result old new (λ was now. SaysRows (stale_in new) MarkStaged result new now) × Followed old new
 IsAnswer (remove_answered result) old new = Tells result old new (λ was now. SaysRows (doomed_in new) Remove result new now) × Followed old new
+IsAnswer (retire_answered result) old new = Tells result old new (λ was now. SaysRows (old_in new) Retire result new now) × Followed old new
+IsAnswer (snapshot_answered result) old new = Tells result old new (λ was now. SaysSnapped result old new was now) × Followed old new
 IsAnswer (doom_answered result) old new = (new.meta ≡ old.meta) × Tells result old new (λ was now. SaysDoomed result old new was now)
 IsAnswer (list_answered behind result) old new = (new.meta ≡ old.meta) × Tells result old new (λ was now. SaysListed behind result new was now)
 IsAnswer (sweep_answered number result) old new =

@@ -26,6 +26,8 @@ pub data Ask : Type 0 where
   of_remove : Ask
   of_sweep_list : (behind : Option (List ℕ)) → Ask
   of_sweep : (number : ℕ) → Ask
+  of_retire : Ask
+  of_snapshot : Ask
 
 -- a call, and what is seen of the index behind it: its history, the moment and the count of faults
 pub record CallMade : Type 0 where

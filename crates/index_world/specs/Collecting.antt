@@ -1,14 +1,15 @@
 -- The calls of the collector, as functions of the core and a fate.
-use Rattle.std.specs.Prelude.{◌≡◌, ◌&&◌, ℕ, Bool, true, false, not, List, [], ◌∷◌, ◌++◌, length, filter, find, nat_le, nat_lt, ◌+◌, Option, Some, None, is_some, Contains, IfSome, IsSome, Result, Ok, Err, ⊤}
+use Rattle.std.specs.Prelude.{◌≡◌, ◌&&◌, ℕ, Bool, true, false, not, List, [], ◌∷◌, ◌++◌, length, filter, find, nat_le, nat_lt, ◌+◌, Option, Some, None, is_some, is_ok, Contains, IfSome, IsSome, Result, Ok, Err, ⊤}
 use Rattle.std.specs.List.{AllByRecursion}
 use Rattle.index_config.specs.declared.config.IndexConfig.{IndexConfig}
 use Rattle.meta_journal.specs.Places.{split_key}
 use Rattle.meta_journal.specs.declared.entry.Act.{Act}
-use Rattle.meta_journal.specs.declared.entry.Act.TheVariants.{MarkStaged, Remove}
+use Rattle.meta_journal.specs.declared.entry.Act.TheVariants.{MarkStaged, Remove, Retire}
 use Rattle.meta_journal.specs.declared.entry.Entry.{Entry}
 use Rattle.meta_store.specs.History.{history, last_number}
 use Rattle.meta_store.specs.Rows.{rows}
 use Rattle.object_store.specs.Store.{is_behind}
+use Rattle.split_states.specs.Answers.{answer_to_retire}
 use Rattle.split_states.specs.Due.{is_marked, stale_rows}
 use Rattle.split_states.specs.Rows.{row_at, row_numbers}
 use Rattle.split_states.specs.declared.rows.Row.{Row}
@@ -99,9 +100,24 @@ doomed_rows doomed list = row_numbers (filter (λ row. is_marked row.state && is
 abbrev pub removal_offer : Core → Option (Offer ℕ)
 removal_offer core = removal_of (doomed_rows core.doomed (rows (history core.history)))
 
--- the count of rows that were marked or removed; 0 where nothing was appended
+-- the rows that may be retired at a moment under a period
+abbrev pub old_rows : (now : ℕ) → (period : Option ℕ) → List Row → List ℕ
+old_rows now period list = row_numbers (filter (λ row. is_ok (answer_to_retire list row.number now period)) list)
+
+abbrev pub retire_of : List ℕ → Option (Offer ℕ)
+retire_of [] = None
+retire_of (n ∷ numbers) = Some (record { act = Retire (n ∷ numbers); answer = length (n ∷ numbers) })
+
+-- all rows that may be retired
+abbrev pub retire_offer : Core → Option (Offer ℕ)
+retire_offer core = retire_of (old_rows core.moment (config_taken core).retention (rows (history core.history)))
+
+-- the count of rows that were marked, retired or removed; 0 where nothing was appended
 abbrev pub mark_stale_call : Fate → Core → Gives Unmade ℕ
 mark_stale_call fate core = appended_if fate 0 stale_offer core
+
+abbrev pub retire_call : Fate → Core → Gives Unmade ℕ
+retire_call fate core = appended_if fate 0 retire_offer core
 
 abbrev pub remove_call : Fate → Core → Gives Unmade ℕ
 remove_call fate core = appended_if fate 0 removal_offer core

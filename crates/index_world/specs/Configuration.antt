@@ -1,11 +1,14 @@
 -- The configuration of a journal: what the reader of configurations gave of its Create's bytes.
-use Rattle.std.specs.Prelude.{◌≡◌, List, [], Option, Some, None}
+use Rattle.std.specs.Prelude.{◌≡◌, ◌<◌, List, [], Option, Some, None, IsSome}
+use Rattle.std.specs.Option.{ForSome}
+use Rattle.doc_value.specs.Documents.{IsSchema}
 use Rattle.index_config.specs.declared.config.IndexConfig.{IndexConfig}
 use Rattle.index_config.specs.declared.config.Mode.TheVariants.{Strict}
 use Rattle.index_config.specs.declared.config.Policy.TheVariants.{NoMerge}
 use Rattle.meta_journal.specs.declared.entry.Entry.{Entry}
 use Rattle.meta_store.specs.History.{history}
 use Rattle.meta_store.specs.Readings.{config_of}
+use Rattle.meta_store.specs.State.{State}
 use Rattle.meta_store.specs.declared.config.Config.{Config}
 use Rattle.index_world.specs.Config.{reads}
 
@@ -41,3 +44,8 @@ no_fields =
 abbrev pub config_or : Option IndexConfig → IndexConfig
 config_or None = no_fields
 config_or (Some config) = config
+
+-- what is kept of some entries has a configuration, and the fields of one are a schema
+pub record HasConfig (state : State) : Type 0 where
+  pub some : 0 < state.revision → IsSome state.config
+  pub schema : ForSome state.config (λ (config : Config). ∥ IsSchema config.settings.index.schema ∥₁)

@@ -13,6 +13,7 @@ pub mod Gate
 pub mod Loading
 pub mod Created
 pub mod Opened
+pub mod Starting
 pub mod Taking
 pub mod Steps
 pub mod Asked
@@ -34,5 +35,7 @@ pub mod Releases
 pub mod Deleted
 pub mod Collecting
 pub mod Collected
+pub mod Snapping
+pub mod Snapped
 pub mod Swept
 pub mod Ran

@@ -7,7 +7,7 @@ use Rattle.meta_store.specs.History.{history}
 use Rattle.meta_store.specs.State.{State, state_of}
 use Rattle.split_states.specs.Due.{stale_rows}
 use Rattle.index_world.specs.Collecting as collecting
-use Rattle.index_world.specs.Collecting.{doomed_rows, marks_offer, removal_of}
+use Rattle.index_world.specs.Collecting.{doomed_rows, marks_offer, old_rows, removal_of, retire_of}
 use Rattle.index_world.specs.Config.{reads}
 use Rattle.index_world.specs.Configuration.{config_or, index_of}
 use Rattle.index_world.specs.Core.{Core}
@@ -16,7 +16,7 @@ use Rattle.index_world.specs.Replacing.{IsReplaceable, IsRaisable, numbers_of}
 use Rattle.source_log.specs.Log.{Log}
 use Rattle.index_world.specs.declared.own.Offer.{Offer}
 use Rattle.index_world.specs.declared.own.Own.{Own}
-use Rattle.index_world.specs.declared.own.Own.TheVariants.{Stage, Publish, Replace, Raise, Task, MarkStale, Remove}
+use Rattle.index_world.specs.declared.own.Own.TheVariants.{Stage, Publish, Replace, Raise, Task, MarkStale, Remove, Retire}
 
 abbrev pub CanOwn : Own → Type 0
 CanOwn (Stage delta facts) = CanSpellFacts facts.now
@@ -26,10 +26,15 @@ CanOwn (Raise number upto) = IsNumber number × IsNumber upto
 CanOwn (Task ask) = CanAddTask ask.now
 CanOwn MarkStale = ⊤
 CanOwn Remove = ⊤
+CanOwn Retire = ⊤
 
 -- the rows that a state has to give up at a moment, and those that it has to remove of doomed ones
 abbrev pub stale_at : (moment : ℕ) → State → List ℕ
 stale_at moment state = stale_rows moment (config_or (index_of state.config)).staged_grace state.rows
+
+-- those that it has to retire
+abbrev pub old_at : (moment : ℕ) → State → List ℕ
+old_at moment state = old_rows moment (config_or (index_of state.config)).retention state.rows
 
 -- The act that it is in a state, at a moment and with these doomed numbers. A Stage has the number behind the greatest, a Task the
 -- opstamp behind the last.
@@ -41,6 +46,7 @@ act_in (Raise number upto) moment doomed state = acts.Raise number upto
 act_in (Task ask) moment doomed state = acts.Task (state.last_opstamp + 1) ask.now.text ask.now.fields ask.now.times
 act_in MarkStale moment doomed state = acts.MarkStaged (stale_at moment state)
 act_in Remove moment doomed state = acts.Remove (doomed_rows doomed state.rows)
+act_in Retire moment doomed state = acts.Retire (old_at moment state)
 
 -- the same with the count of the rows that are given up or removed, and none where there is no such row
 abbrev pub offer_in : Own → (moment : ℕ) → (doomed : List ℕ) → State → Option (collecting.Offer ℕ)
@@ -51,6 +57,7 @@ offer_in (Raise number upto) moment doomed state = Some (record { act = acts.Rai
 offer_in (Task ask) moment doomed state = Some (record { act = acts.Task (state.last_opstamp + 1) ask.now.text ask.now.fields ask.now.times; answer = 0 })
 offer_in MarkStale moment doomed state = marks_offer (stale_at moment state)
 offer_in Remove moment doomed state = removal_of (doomed_rows doomed state.rows)
+offer_in Retire moment doomed state = retire_of (old_at moment state)
 
 -- what the code offers
 abbrev pub offer_of : Option Offer → Option (collecting.Offer ℕ)
@@ -69,3 +76,4 @@ MayOwn (Raise number upto) log core = IsRaisable core number upto
 MayOwn (Task ask) log core = ⊤
 MayOwn MarkStale log core = ⊤
 MayOwn Remove log core = ⊤
+MayOwn Retire log core = ⊤

@@ -19,6 +19,7 @@ ghost use Rattle.index_world.specs.Taking.{IsFaultBetween};
 use crate::config::reading_of_text;
 use crate::doom_list::Doomed;
 use crate::life::Life;
+use crate::starting::{Beginning, begin};
 use crate::steady::SteadyClock;
 use crate::taking::{prepare, world_error};
 use crate::world_error::WorldError;
@@ -71,7 +72,7 @@ fn append_first<S: ObjectStore>(
     requires read { reading ≡ reading_of reads None entry.act }
     requires allowed { IsOk (answer_to reading (state_of reads Start) entry) }
     requires early { before ≤ S.fault_count store.old }
-    ensures knows { IfOk result (λ life. LifeIs life (entry ∷ []) entry.moment false no_upkeep) }
+    ensures knows { IfOk result (λ life. LifeIs life (entry ∷ []) entry.moment false (no_upkeep 0)) }
     ensures faults { IfErr result (IsFaultBetween before (S.fault_count store.new)) }
     ensures later { S.fault_count store.old ≤ S.fault_count store.new }
     ensures kinds { IfErr result (λ error. (text : List ℕ) → IsOfCreate text error) }
@@ -98,6 +99,7 @@ fn append_first<S: ObjectStore>(
                 moment,
                 marks: Vec::new(alloc),
                 doomed: Doomed::vacant(alloc),
+                snapped: 0,
             })
         }
         Err(error) => {
@@ -127,7 +129,8 @@ fn read_text(alloc: Global, text: &[u8]) -> Result<(Bytes, Reading), WorldError>
     }
 }
 
-/// Makes the index of a store: its journal is loaded, the text is read, the clock is asked, and the Create is appended.
+/// Makes the index of a store: its last snapshot and its journal are loaded, the text is read, the clock is asked, and the Create is
+/// appended.
 pub fn create<S: ObjectStore, C: SteadyClock>(
     alloc: Global,
     store: &mut S,
@@ -143,9 +146,12 @@ pub fn create<S: ObjectStore, C: SteadyClock>(
     ensures created { WhereTold (S.told store.old) (S.told store.new) (CreatesTo text.now (C.told clock.old) (S.fault_count store.old) (S.fault_count store.new) result) }
 {
     let before = store.faults();
-    match Journal::load(alloc, store) {
+    let Beginning { snapped: _, meta } = begin(alloc, store, before)?;
+    let number = meta.revision();
+    mem::drop(meta);
+    match Journal::load(alloc, store, number) {
         Ok((journal, entries)) => {
-            let is_first = entries.is_empty();
+            let is_first = number == 0 && entries.is_empty();
             mem::drop(entries);
             if !is_first {
                 mem::drop(journal);

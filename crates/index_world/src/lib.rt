@@ -13,6 +13,7 @@ mod marking;
 mod next_doomed;
 mod own;
 mod plan_tasks;
+mod starting;
 mod steady;
 mod taking;
 mod tokens;

@@ -10,14 +10,17 @@ use crate::own::{Offer, Outcome, Own, act_of};
 use crate::taking::{admit, moment_of, prepare, read_with_room, world_error};
 use crate::world_error::WorldError;
 use index_config::IndexConfig;
-use meta_journal::{Entry, Journal, JournalError, meta_key};
+use meta_journal::{Entry, Journal, JournalError, meta_key, snap_key};
 use meta_store::{Meta, Reading};
-use object_store::ObjectStore;
+use object_store::{CreateError, ObjectStore};
 use std::alloc::Global;
 use std::mem;
 
-/// The journal, the state behind the entries that were taken in, the greatest moment, which markings were taken in when, and
-/// whose files were deleted while they had a row.
+/// So many entries stand between two snapshots at least.
+const SNAP_STEP: u64 = 1_024;
+
+/// The journal, the state behind the entries that were taken in, the greatest moment, which markings were taken in when, whose files
+/// were deleted while they had a row, and the last snapshot.
 #[derive(Drop)]
 pub struct Life {
     pub journal: Journal,
@@ -25,6 +28,8 @@ pub struct Life {
     pub moment: u64,
     pub marks: Vec<Marking>,
     pub doomed: Doomed,
+    /// How many entries the last snapshot has that this life began with or wrote, 0 for none.
+    pub snapped: u64,
     ghost timely: { moment < 2 ^ 62 },
     ghost in_step: { meta.state.revision ≡ journal.next },
     // An index that was opened has a configuration.
@@ -47,6 +52,8 @@ impl Life {
     ghost use Rattle.index_world.specs.Life.{TookIn, TookNone, StandsBy, Settling, Creating, Appending, Appends, Makes};
     ghost use Rattle.index_world.specs.Owning.{CanOwn, MayOwn};
     ghost use Rattle.index_world.specs.PlaceMade.{IsPlaceMade};
+    ghost use Rattle.index_world.specs.Snapped.{Snaps, snapped_behind, IsOfSnapshot};
+    ghost use Rattle.index_world.specs.Snapping.{is_due_at};
     ghost use Rattle.index_world.specs.Taking.{IsFaultBetween};
 
     /// The configuration of the index.
@@ -223,6 +230,46 @@ impl Life {
                     key: meta_key(self.journal.next()),
                 })
             }
+        }
+    }
+
+    // Whether the last snapshot is so far behind that another may be written.
+    fn is_snap_due(&self) -> bool
+        ensures { result ≡ is_due_at self.now.snapped self.now.meta.state.revision }
+    {
+        self.snapped.saturating_add(SNAP_STEP) <= self.meta.revision()
+    }
+
+    /// Writes a snapshot of the state where the last one is far enough behind, and gives its revision. `before` is the store's count
+    /// at the start of the world's call.
+    pub fn snapshot<S: ObjectStore>(
+        &mut self,
+        alloc: Global,
+        store: &mut S,
+        before: u64,
+    ) -> Result<Option<u64>, WorldError>
+        requires sure { self.old.journal.place ≡ Sure }
+        ensures snaps { WhereTold (S.told store.old) (S.told store.new) (Snaps self.old result) }
+        ensures same { self.new ≡ record self.old { snapped = snapped_behind result self.old.snapped } }
+        // Over all stores.
+        ensures later { S.fault_count store.old ≤ S.fault_count store.new }
+        ensures faults { before ≤ S.fault_count store.old → IfErr result (IsFaultBetween before (S.fault_count store.new)) }
+        ensures kinds { IfErr result IsOfSnapshot }
+    {
+        if !self.is_snap_due() {
+            return Ok(None);
+        }
+        let revision = self.meta.revision();
+        let bytes = self.meta.snapshot(alloc)?;
+        let answer = store.create(alloc, &snap_key(revision), bytes.as_slice());
+        let after = store.faults();
+        match answer {
+            Ok(()) | Err(CreateError::Exists) => {
+                self.snapped = revision;
+                Ok(Some(revision))
+            }
+            Err(CreateError::Failed) => Err(WorldError::StoreFault { before, after }),
+            Err(CreateError::Memory(refused)) => Err(WorldError::Memory(refused)),
         }
     }
 }

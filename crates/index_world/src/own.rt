@@ -1,10 +1,11 @@
 //! Entries of a caller's own.
 
-ghost use Rattle.std.specs.Prelude.{◌≡◌, ◌++◌, ◌∷◌, [], Some, true, filter, IfOk, IfSome, OnOk};
+ghost use Rattle.std.specs.Prelude.{◌≡◌, ◌++◌, ◌∷◌, [], Some, true, filter, is_ok, IfOk, IfSome, OnOk};
 ghost use Rattle.meta_journal.specs.Spelling.{CanSpellPart, CanSpellAct, CanSpellRange, AreAll, IsNumber};
 ghost use Rattle.meta_journal.specs.declared.entry.Act.TheVariants as acts;
+ghost use Rattle.split_states.specs.Answers.{answer_to_retire};
 ghost use Rattle.split_states.specs.Rows.{rising};
-ghost use Rattle.index_world.specs.Collecting.{doomed_rows, marks_offer, removal_of};
+ghost use Rattle.index_world.specs.Collecting.{doomed_rows, marks_offer, old_rows, removal_of, retire_of};
 ghost use Rattle.index_world.specs.Core.{is_in};
 ghost use Rattle.index_world.specs.Gate.{CanAddTask};
 ghost use Rattle.index_world.specs.Owning.{CanOwn, offer_in, offer_of};
@@ -19,7 +20,7 @@ use doc_value::TimeRange;
 use meta_journal::{Act, Entry};
 use meta_store::PlanRow;
 use source_checkpoint::{Delta, Part, Partition};
-use split_states::{Numbers, RowFacts, Rows};
+use split_states::{Numbers, RowFacts, Rows, may_retire};
 use std::alloc::{AllocError, Global};
 use std::mem;
 
@@ -35,6 +36,7 @@ pub enum Own<'a> {
     Task(&'a DeleteAsk),
     MarkStale,
     Remove,
+    Retire,
 }
 
 /// An act, and how many rows it gives up or removes.
@@ -141,6 +143,29 @@ fn offer_to_remove(numbers: Numbers) -> Result<Option<Offer>, AllocError>
     }
 }
 
+// The same of rows that are retired.
+fn offer_to_retire(numbers: Numbers) -> Result<Option<Offer>, AllocError>
+    requires { rising numbers ≡ true }
+    ensures can { IfOk result (λ offer. IfSome offer (λ o. CanSpellAct o.act)) }
+    ensures same { IfOk result (λ offer. offer_of offer ≡ retire_of numbers) }
+{
+    if numbers.is_empty() {
+        mem::drop(numbers);
+        return Ok(None);
+    }
+    let numbers = fitting(numbers);
+    match u32::try_from(numbers.len()) {
+        Ok(count) => Ok(Some(Offer {
+            act: Act::Retire { numbers },
+            count,
+        })),
+        Err(_) => {
+            mem::drop(numbers);
+            Err(AllocError)
+        }
+    }
+}
+
 // The numbers of planned rows, each of which fits its type.
 fn planned_numbers(alloc: Global, rows: &[PlanRow]) -> Result<Numbers, AllocError>
     ensures same { IfOk result (λ numbers. numbers ≡ numbers_of rows.now) }
@@ -236,6 +261,39 @@ fn doomed_numbers(alloc: Global, rows: &Rows, doomed: &Doomed) -> Result<Numbers
     Ok(numbers)
 }
 
+// A number more where its row may be retired.
+fn add_old(
+    numbers: &mut Numbers,
+    rows: &Rows,
+    number: u64,
+    now: u64,
+    period: Option<u64>,
+) -> Result<(), AllocError>
+    ensures { OnOk result (numbers.new ≡ numbers.old ++ filter (λ n. is_ok (answer_to_retire rows.now.list n now period)) (number ∷ [])) }
+{
+    if may_retire(rows, number, now, period).is_ok() {
+        numbers.push(number)?;
+    }
+    Ok(())
+}
+
+// The numbers of the rows that may be retired. Without a period there is none.
+fn old_numbers(
+    alloc: Global,
+    rows: &Rows,
+    now: u64,
+    period: Option<u64>,
+) -> Result<Numbers, AllocError>
+    ensures same { IfOk result (λ numbers. numbers ≡ old_rows now period rows.now.list) }
+    ensures rise { IfOk result (λ numbers. rising numbers ≡ true) }
+{
+    let mut numbers = Numbers::vacant(alloc);
+    for row in rows.as_slice() {
+        add_old(&mut numbers, rows, row.number, now, period)?;
+    }
+    Ok(numbers)
+}
+
 /// The act that a caller's own entry is as a life stands, and none where there is nothing to do.
 pub fn act_of(alloc: Global, own: Own, life: &Life) -> Result<Option<Offer>, AllocError>
     requires { CanOwn own }
@@ -270,6 +328,10 @@ pub fn act_of(alloc: Global, own: Own, life: &Life) -> Result<Option<Offer>, All
             // Their numbers rise.
             let _rows = rows.as_slice();
             offer_to_mark(rows.stale(alloc, life.moment, grace)?)
+        }
+        Own::Retire => {
+            let period = life.config().retention;
+            offer_to_retire(old_numbers(alloc, life.meta.rows(), life.moment, period)?)
         }
         Own::Remove => offer_to_remove(doomed_numbers(alloc, life.meta.rows(), &life.doomed)?),
     }

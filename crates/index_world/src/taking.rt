@@ -5,19 +5,18 @@ ghost use Rattle.std.specs.List.{AllByRecursion};
 ghost use Rattle.index_world.specs.Index.{max_entries};
 ghost use Rattle.meta_journal.specs.declared.place.JournalPlace.TheVariants.{Sure};
 ghost use Rattle.meta_store.specs.Answers.{answer_to};
-ghost use Rattle.meta_store.specs.History.{history};
-ghost use Rattle.meta_store.specs.History as told;
-ghost use Rattle.meta_store.specs.History.History.{Start};
 ghost use Rattle.meta_store.specs.Readings as readings;
 ghost use Rattle.meta_store.specs.Room.{HasRoom};
-ghost use Rattle.meta_store.specs.State.{Legal, after};
-ghost use Rattle.meta_store.specs.State as spec;
+ghost use Rattle.meta_store.specs.State.{after};
 ghost use Rattle.object_store.specs.Store.{State, WhereTold};
 ghost use Rattle.source_log.specs.Log.{Log};
 ghost use Rattle.index_world.specs.Calls.{marked_by};
 ghost use Rattle.index_world.specs.Config.{reads};
 ghost use Rattle.index_world.specs.Core.{Core};
+ghost use Rattle.index_world.specs.Answering.{Takes};
+ghost use Rattle.index_world.specs.Configuration.{HasConfig};
 ghost use Rattle.index_world.specs.Life.{Opening, OpensTo};
+ghost use Rattle.index_world.specs.Opened as spec;
 ghost use Rattle.index_world.specs.Opened.{first_refused};
 ghost use Rattle.index_world.specs.Taking.{IsFaultBetween, IsNoFault, IsRefusedAt, IsUnfit, IsUnprepared, IsWant, of_create, of_get, of_journal, of_list};
 ghost use Rattle.index_world.specs.World.{IsWorld};
@@ -26,6 +25,7 @@ use crate::config::reading_of;
 use crate::doom_list::Doomed;
 use crate::life::Life;
 use crate::marking::{Marking, reserve};
+use crate::starting::{Beginning, begin};
 use crate::world_error::WorldError;
 use clock_time::LAST_MOMENT;
 use meta_journal::{Entry, Journal, JournalError, MAX_ENTRIES, meta_key};
@@ -173,20 +173,26 @@ pub fn moment_of(entry: &Entry) -> u64
     entry.moment.min(LAST_MOMENT)
 }
 
-// The state behind these entries, and the greatest moment of them.
-fn state_of(alloc: Global, entries: Vec<Entry>) -> Result<(Meta, u64), WorldError>
-    requires { vec_len entries ≤ 10000000 }
-    ensures revision { IfOk result (λ x. x.0.state.revision ≡ vec_len entries) }
+// The state behind another and these entries, and the greatest moment of both.
+fn state_behind(
+    alloc: Global,
+    meta: Meta,
+    entries: Vec<Entry>,
+) -> Result<(Meta, u64), WorldError>
+    requires few { meta.state.revision + vec_len entries ≤ 10000000 }
+    requires timely { meta.state.moment < 2 ^ 62 }
+    requires config { HasConfig meta.state }
+    ensures revision { IfOk result (λ x. x.0.state.revision ≡ meta.state.revision + vec_len entries) }
     ensures moment { IfOk result (λ x. x.1 < 2 ^ 62) }
-    ensures state { IfOk result (λ x. x.0.state ≡ spec.state_of reads (history entries.items)) }
-    ensures greatest { AllByRecursion (λ e. e.moment < 2 ^ 62) entries.items → IfOk result (λ x. x.1 ≡ told.moment_of (history entries.items)) }
-    ensures want { Legal reads (history entries.items) → IfErr result IsWant }
+    ensures state { IfOk result (λ x. x.0.state ≡ spec.state_behind meta.state entries.items) }
+    ensures greatest { AllByRecursion (λ e. e.moment < 2 ^ 62) entries.items → IfOk result (λ x. x.1 ≡ x.0.state.moment) }
+    ensures want { Takes meta.state entries.items (spec.state_behind meta.state entries.items) → IfErr result IsWant }
     ensures no_fault { IfErr result IsNoFault }
-    ensures fit { OnOk result (first_refused Start entries.items ≡ None) }
-    ensures configured { 0 < vec_len entries → IfOk result (λ x. IsSome x.0.state.config) }
-    ensures refused { IfErr result (IsRefusedAt (first_refused Start entries.items)) }
+    ensures fit { OnOk result (first_refused meta.state entries.items ≡ None) }
+    ensures configured { IfOk result (λ x. HasConfig x.0.state) }
+    ensures refused { IfErr result (IsRefusedAt (first_refused meta.state entries.items)) }
 {
-    let mut meta = Meta::vacant(alloc);
+    let mut meta = meta;
     match take_all(alloc, &mut meta, entries) {
         Ok(moment) => Ok((meta, moment)),
         Err(error) => {
@@ -196,23 +202,24 @@ fn state_of(alloc: Global, entries: Vec<Entry>) -> Result<(Meta, u64), WorldErro
     }
 }
 
-// Takes these entries into the state before the first, and gives the greatest moment of them.
+// Takes these entries into a state, and gives the greatest moment of both.
 fn take_all(alloc: Global, meta: &mut Meta, entries: Vec<Entry>) -> Result<u64, WorldError>
-    requires vacant { meta.old.state ≡ spec.state_of reads Start }
-    requires few { vec_len entries ≤ 10000000 }
-    ensures revision { OnOk result (meta.new.state.revision ≡ vec_len entries) }
+    requires few { meta.old.state.revision + vec_len entries ≤ 10000000 }
+    requires timely { meta.old.state.moment < 2 ^ 62 }
+    requires config { HasConfig meta.old.state }
+    ensures revision { OnOk result (meta.new.state.revision ≡ meta.old.state.revision + vec_len entries) }
     ensures moment { IfOk result (λ moment. moment < 2 ^ 62) }
-    ensures state { OnOk result (meta.new.state ≡ spec.state_of reads (history entries.items)) }
-    ensures greatest { AllByRecursion (λ e. e.moment < 2 ^ 62) entries.items → IfOk result (λ moment. moment ≡ told.moment_of (history entries.items)) }
-    ensures want { Legal reads (history entries.items) → IfErr result IsWant }
+    ensures state { OnOk result (meta.new.state ≡ spec.state_behind meta.old.state entries.items) }
+    ensures greatest { AllByRecursion (λ e. e.moment < 2 ^ 62) entries.items → IfOk result (λ moment. moment ≡ meta.new.state.moment) }
+    ensures want { Takes meta.old.state entries.items (spec.state_behind meta.old.state entries.items) → IfErr result IsWant }
     ensures no_fault { IfErr result IsNoFault }
-    ensures fit { OnOk result (first_refused Start entries.items ≡ None) }
-    ensures configured { 0 < vec_len entries → OnOk result (IsSome meta.new.state.config) }
-    ensures refused { IfErr result (IsRefusedAt (first_refused Start entries.items)) }
+    ensures fit { OnOk result (first_refused meta.old.state entries.items ≡ None) }
+    ensures configured { OnOk result (HasConfig meta.new.state) }
+    ensures refused { IfErr result (IsRefusedAt (first_refused meta.old.state entries.items)) }
 {
     let mut left = entries;
     left.reverse();
-    let mut moment = 0;
+    let mut moment = meta.moment();
     'entries: while let Some(entry) = left.pop() {
         match reading_of(alloc, meta.config(), &entry) {
             Ok(reading) => match take_one(meta, entry, reading) {
@@ -257,7 +264,7 @@ fn take_one(meta: &mut Meta, entry: Entry, reading: Reading) -> Result<u64, Worl
     }
 }
 
-/// Opens the index of a store.
+/// Opens the index of a store: with the last snapshot, and the entries behind it.
 pub fn open<S: ObjectStore>(alloc: Global, store: &mut S) -> Result<Life, WorldError>
     ensures sure { IfOk result (λ life. life.journal.place ≡ Sure) }
     ensures faults { IfErr result (IsFaultBetween (S.fault_count store.old) (S.fault_count store.new)) }
@@ -267,23 +274,27 @@ pub fn open<S: ObjectStore>(alloc: Global, store: &mut S) -> Result<Life, WorldE
         IsWorld old core log → core.clock < 2 ^ 62 → Opening core log result (S.told store.new) (S.fault_count store.new) }
 {
     let before = store.faults();
-    let answer = Journal::load(alloc, store);
+    let Beginning { snapped, meta } = begin(alloc, store, before)?;
+    let number = meta.revision();
+    let answer = Journal::load(alloc, store, number);
     // The count of a store has its range.
     let _count = store.faults();
     match answer {
         Ok((journal, entries)) => {
-            if entries.is_empty() {
+            if number == 0 && entries.is_empty() {
                 mem::drop(entries);
                 mem::drop(journal);
+                mem::drop(meta);
                 return Err(WorldError::NoIndex);
             }
-            match state_of(alloc, entries.into_vec()) {
+            match state_behind(alloc, meta, entries.into_vec()) {
                 Ok((meta, moment)) => Ok(Life {
                     journal,
                     meta,
                     moment,
                     marks: Vec::new(alloc),
                     doomed: Doomed::vacant(alloc),
+                    snapped,
                 }),
                 Err(error) => {
                     mem::drop(journal);
@@ -291,6 +302,9 @@ pub fn open<S: ObjectStore>(alloc: Global, store: &mut S) -> Result<Life, WorldE
                 }
             }
         }
-        Err(error) => Err(world_error(error, 0, before)),
+        Err(error) => {
+            mem::drop(meta);
+            Err(world_error(error, 0, before))
+        }
     }
 }
