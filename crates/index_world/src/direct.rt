@@ -128,6 +128,14 @@ impl<S: ObjectStore, C: SteadyClock> Gate for Direct<S, C> {
         self.world.mark_stale(alloc)
     }
 
+    fn retire(&mut self, alloc: Global) -> Result<u32, WorldError> {
+        self.world.retire(alloc)
+    }
+
+    fn snapshot(&mut self, alloc: Global) -> Result<Option<u64>, WorldError> {
+        self.world.snapshot(alloc)
+    }
+
     fn doom(&mut self, _alloc: Global) -> Result<Option<u64>, WorldError> {
         self.world.doom()
     }

@@ -8,13 +8,14 @@ ghost use Rattle.meta_journal.specs.Spelling.{CanSpellFacts};
 ghost use Rattle.source_log.specs.Log.{Log};
 ghost use Rattle.meta_journal.specs.Places.{split_key};
 ghost use Rattle.object_store.specs.Store.{State, WhereTold};
-ghost use Rattle.index_world.specs.Answering.{Answered, marks_answered, moment_answered, stage_answered, upload_answered, publish_answered, replace_answered, raise_answered, task_answered, plan_answered, tasks_answered, fetch_answered, mark_stale_answered, doom_answered, remove_answered, list_answered, sweep_answered};
+ghost use Rattle.index_world.specs.Answering.{Answered, marks_answered, moment_answered, stage_answered, upload_answered, publish_answered, replace_answered, raise_answered, task_answered, plan_answered, tasks_answered, fetch_answered, mark_stale_answered, doom_answered, remove_answered, list_answered, sweep_answered, retire_answered, snapshot_answered};
 ghost use Rattle.index_world.specs.Asked.{Behind, FetchesFile, IsFetch, IsUpload, UploadsFile};
 ghost use Rattle.index_world.specs.Calls.{asked, looked, asked_and_looked, fetched_from, upload_made};
-ghost use Rattle.index_world.specs.CallsMade.{CallMade, of_checkpoints, of_moment, of_stage, of_upload, of_publish, of_replace, of_raise, of_task, of_plan, of_fetch, of_mark_stale, of_doom, of_remove, of_sweep_list, of_sweep};
+ghost use Rattle.index_world.specs.CallsMade.{CallMade, of_checkpoints, of_moment, of_stage, of_upload, of_publish, of_replace, of_raise, of_task, of_plan, of_fetch, of_mark_stale, of_doom, of_remove, of_sweep_list, of_sweep, of_retire, of_snapshot};
 ghost use Rattle.index_world.specs.Core.{Core, IsConfigured, IsUnusedIn, Nobody};
 ghost use Rattle.index_world.specs.Collected.{SweepsFile};
-ghost use Rattle.index_world.specs.Collecting.{doom_call, IsSweepPage, list_call, mark_stale_call, remove_call, sweep_call};
+ghost use Rattle.index_world.specs.Collecting.{doom_call, IsSweepPage, list_call, mark_stale_call, remove_call, retire_call, sweep_call};
+ghost use Rattle.index_world.specs.Snapping.{snapshot_call};
 ghost use Rattle.index_world.specs.Gate.{CanAddTask, Does, DoesWith, Looked, IsGiven, IsReceipt, raise_call, replace_call, task_call, fetched_more, grace_of, IsSoundCore, IsTrouble, IsUnmade, IsUnfetched, AreMarks, IsMoment, stage_call, WasStaged, WasUploaded, publish_call, IsPublishable, IsRevision, IsPlan, IsPieceGiven};
 ghost use Rattle.index_world.specs.Replacing.{IsRaisable, IsReplaceable, numbers_of};
 ghost use Rattle.index_world.specs.World.{GoesFor};
@@ -141,6 +142,25 @@ pub trait Gate {
         ensures same { bytes_fetched self.new ≡ bytes_fetched self.old }
         ensures step { (core : Core) (log : Log) → Stands self.old core log →
             DoesWith Stands Between Owns Adds None of_mark_stale mark_stale_call IsUnmade IsGiven result core log self.old self.new };
+
+    /// Retires all published rows that may be retired by the period of the configuration, and says how many: 0, without an entry, where
+    /// there is none.
+    fn retire(&mut self, alloc: Global) -> Result<u32, WorldError>
+        ensures later { since self.old self.new }
+        ensures answered { Answers self.old (retire_answered result) self.new }
+        ensures same { bytes_fetched self.new ≡ bytes_fetched self.old }
+        ensures step { (core : Core) (log : Log) → Stands self.old core log →
+            DoesWith Stands Between Owns Adds None of_retire retire_call IsUnmade IsGiven result core log self.old self.new };
+
+    /// Writes a snapshot of the state where the revision is 1,024 above the last one's at least, and gives the revision; None where it
+    /// is less. It settles first, asks no clock, and is no entry. A snapshot that stands already counts as written; one that failed may
+    /// be tried again.
+    fn snapshot(&mut self, alloc: Global) -> Result<Option<u64>, WorldError>
+        ensures later { since self.old self.new }
+        ensures answered { Answers self.old (snapshot_answered result) self.new }
+        ensures same { bytes_fetched self.new ≡ bytes_fetched self.old }
+        ensures step { (core : Core) (log : Log) → Stands self.old core log →
+            DoesWith Stands Between Owns Adds None of_snapshot snapshot_call IsTrouble IsGiven result core log self.old self.new };
 
     /// Deletes the file of the least row that is marked, released and not doomed yet, and gives its number, behind which it is
     /// doomed. None, without a call of the store, where there is no such row; a delete that failed may be tried again.

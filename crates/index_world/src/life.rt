@@ -237,7 +237,8 @@ impl Life {
     fn is_snap_due(&self) -> bool
         ensures { result ≡ is_due_at self.now.snapped self.now.meta.state.revision }
     {
-        self.snapped.saturating_add(SNAP_STEP) <= self.meta.revision()
+        let revision = self.meta.revision();
+        revision >= SNAP_STEP && self.snapped <= revision - SNAP_STEP
     }
 
     /// Writes a snapshot of the state where the last one is far enough behind, and gives its revision. `before` is the store's count

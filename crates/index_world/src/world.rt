@@ -11,7 +11,7 @@ ghost use Rattle.meta_journal.specs.Spelling.{CanSpellFacts};
 ghost use Rattle.object_store.specs.Store.{State, WhereTold};
 ghost use Rattle.source_log.specs.Log.{Log};
 ghost use Rattle.meta_journal.specs.Places.{split_key};
-ghost use Rattle.index_world.specs.Answering.{IsAnswer, marks_answered, moment_answered, SaysListed, stage_answered, publish_answered, replace_answered, raise_answered, task_answered, plan_answered, mark_stale_answered, doom_answered, remove_answered};
+ghost use Rattle.index_world.specs.Answering.{IsAnswer, marks_answered, moment_answered, SaysListed, stage_answered, publish_answered, replace_answered, raise_answered, task_answered, plan_answered, mark_stale_answered, doom_answered, remove_answered, retire_answered, snapshot_answered};
 ghost use Rattle.index_world.specs.Asked.{FetchesFile, given_behind, IsFetch, IsInTime, IsUpload, UploadsFile};
 ghost use Rattle.index_world.specs.Calls.{asked, asked_moment, looked, asked_and_looked, fetched_from, upload_made};
 ghost use Rattle.index_world.specs.Configuration.{index_of};
@@ -19,7 +19,8 @@ ghost use Rattle.index_world.specs.Core.{Core, IsConfigured, IsUnusedIn};
 ghost use Rattle.index_world.specs.Created.{CreatesIndex, CreatesNot, CreatesWorld, CreatesNone, IsOfCreate};
 ghost use Rattle.index_config.specs.Answer.{config_answer};
 ghost use Rattle.index_world.specs.Collected.{SweepsFile};
-ghost use Rattle.index_world.specs.Collecting.{is_swept_by, doom_call, IsSweepPage, list_call, mark_stale_call, remove_call, sweep_call};
+ghost use Rattle.index_world.specs.Collecting.{is_swept_by, doom_call, IsSweepPage, list_call, mark_stale_call, remove_call, retire_call, sweep_call};
+ghost use Rattle.index_world.specs.Snapping.{snapshot_call};
 ghost use Rattle.index_world.specs.Gate.{Acts, ActsWith, AreTasksUpto, CanAddTask, IsGiven, IsReceipt, raise_call, replace_call, task_call, grace_of, IsTrouble, IsUnmade, IsUnfetched, AreMarks, IsMoment, stage_call, WasStaged, WasUploaded, publish_call, IsPublishable, IsRevision, IsPlan, IsPieceGiven};
 ghost use Rattle.index_world.specs.PlanTasks.{tasks_upto};
 ghost use Rattle.index_world.specs.Replacing.{IsRaisable, IsReplaceable, numbers_of};
@@ -81,6 +82,7 @@ impl<S: ObjectStore, C: SteadyClock> Model for World<S, C> {
       frozen = w.frozen;
       marks = w.life.marks.items;
       doomed = w.life.doomed.numbers.items;
+      snapped = w.life.snapped;
     } };
 }
 
@@ -120,8 +122,9 @@ fn asked_of<C: SteadyClock>(clock: &mut C, frozen: bool, moment: u64) -> u64
 }
 
 impl<S: ObjectStore, C: SteadyClock> World<S, C> {
-    /// Makes the index of a store whose journal has no entry: one Create, with the bytes of its configuration as they are given
-    /// and the moment that the clock tells. IndexExists where the journal has an entry, or where one lands before the Create;
+    /// Makes the index of a store that has no snapshot and whose journal has no entry: one Create, with the bytes of its configuration
+    /// as they are given and the moment that the clock tells. IndexExists where a snapshot stands or the journal has an entry, or where
+    /// one lands before the Create;
     /// BadConfig where the bytes are no configuration, and then nothing is made.
     pub fn create(
         alloc: Global,
@@ -156,8 +159,9 @@ impl<S: ObjectStore, C: SteadyClock> World<S, C> {
         }
     }
 
-    /// Opens the index of a store: NoIndex where its journal has no entry, Corrupt with the key of the first object that does
-    /// not decode or, where all decode, of the first whose entry may not come.
+    /// Opens the index of a store: with the state of its last snapshot, where one stands, and the entries of its journal behind it. NoIndex
+    /// where none stands and its journal has no entry; Corrupt with the snapshot's key where it has no state, or with the key of the first
+    /// object behind it that does not decode or, where all decode, of the first whose entry may not come.
     pub fn load(alloc: Global, store: S, clock: C) -> Result<World<S, C>, Unopened<S>>
         // A fault of the store has its counts before and behind, of which the second rose, over all stores.
         ensures faults { IfErr result (λ unopened. IsFaultBetween (S.fault_count store) (S.fault_count unopened.store) unopened.error) }
@@ -269,6 +273,7 @@ impl<S: ObjectStore, C: SteadyClock> World<S, C> {
         ensures unsure { self.new.unsure ≡ self.old.unsure }
         ensures marks { self.new.marks ≡ self.old.marks }
         ensures doomed { self.new.doomed ≡ self.old.doomed }
+        ensures snapped { self.new.snapped ≡ self.old.snapped }
     {
         self.life.moment = asked_of(&mut self.clock, self.frozen, self.life.moment);
     }
@@ -419,6 +424,34 @@ impl<S: ObjectStore, C: SteadyClock> World<S, C> {
         self.ask();
         self.life
             .append(alloc, &mut self.store, Own::MarkStale, before)
+    }
+
+    /// Retires all published rows that may be retired by the period of the configuration, and says how many. Where there is none nothing
+    /// is appended.
+    pub fn retire(&mut self, alloc: Global) -> Result<u32, WorldError>
+        ensures step { (core : Core) (log : Log) → WorldStands self.old core log →
+            ActsWith WorldStands None retire_call IsUnmade IsGiven result core log self.new }
+        // Over every store, sound or not.
+        ensures answers { IsAnswer (retire_answered result) self.old self.new }
+    {
+        let before = self.store.faults();
+        self.ask();
+        self.life
+            .append(alloc, &mut self.store, Own::Retire, before)
+    }
+
+    /// Writes a snapshot of the state where the revision is 1,024 above the last one's at least, and gives the revision; None where it
+    /// is less. The last one is the one that this life was opened from or wrote. A snapshot that stands already counts as written; one
+    /// that failed may be tried again.
+    pub fn snapshot(&mut self, alloc: Global) -> Result<Option<u64>, WorldError>
+        ensures step { (core : Core) (log : Log) → WorldStands self.old core log →
+            ActsWith WorldStands None snapshot_call IsTrouble IsGiven result core log self.new }
+        // Over every store, sound or not.
+        ensures answers { IsAnswer (snapshot_answered result) self.old self.new }
+    {
+        let before = self.store.faults();
+        self.life.settle(alloc, &mut self.store, before)?;
+        self.life.snapshot(alloc, &mut self.store, before)
     }
 
     /// Removes all marked rows that this life doomed, and says how many. Where there is none nothing is appended.
