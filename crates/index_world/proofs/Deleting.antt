@@ -29,6 +29,7 @@ use Rattle.index_world.specs.Index.{IsFileLeft, IsRowKept, AreRowsKept, Stands, 
 use Rattle.index_world.proofs.InHand.{Comes}
 use Rattle.index_world.proofs.Journals.{stand-of, Stand-same, StandFrom-of, journal-end}
 use Rattle.index_world.proofs.Removed.{get-gone, get-kept, was_there, gone_before}
+use Rattle.index_world.proofs.SnapKeeping.{AreSnaps-without}
 use Rattle.index_world.proofs.StoreChanges.{last_within}
 use Rattle.index_world.proofs.StoreKeys.{meta_is_no_split, split_key-injective}
 
@@ -234,6 +235,7 @@ index-deleted kept entries log n i staged may = (
   record {
     stands = Stands-deleted kept entries log n i.stands staged may;
     late_entries = LateEntries-carried kept (without_object kept (split_key n)) entries log kept.late (carries_deleted kept entries log n i.stands staged may) i.late_entries;
+    snaps = AreSnaps-without kept (split_key n) entries i.snaps;
   },
   λ entry h. MayEnter-carried kept (without_object kept (split_key n)) entries log entry (carries_deleted kept entries log n i.stands staged may) h,
   held_deleted kept entries log n i.stands staged may,

@@ -36,6 +36,7 @@ use Rattle.index_world.proofs.Configured.{configured-more}
 use Rattle.index_world.proofs.Journals.{stand-of, Stand-same, Stand-snoc, StandFrom-of, journal-end}
 use Rattle.index_world.proofs.Numbers.{history-snoc}
 use Rattle.index_world.proofs.Rows.{rows_act}
+use Rattle.index_world.proofs.SnapKeeping.{AreSnaps-more, AreSnaps-object, meta_no_snap, no_snap}
 use Rattle.index_world.proofs.StoreChanges.{staged_more}
 use Rattle.index_world.proofs.StoreKeys.{true_is_false, meta_key-injective, meta_begins, meta_no_split, get-same, get-other, absent_at, kept_at, stood, none_some, meta_is_no_split}
 
@@ -259,6 +260,7 @@ enters_both kept entries log entry bytes i spells e = (
   record {
     stands = Stands-enters kept entries log entry bytes i.stands spells e;
     late_entries = AllOf-weaker (IsLateEntry kept entries log) (IsLateEntry (with_object kept (meta_key (length entries)) bytes) (entries ++ entry ∷ []) log) kept.late (λ o k meta. inl (by o (k meta))) i.late_entries;
+    snaps = AreSnaps-more (with_object kept (meta_key (length entries)) bytes) entries (entry ∷ []) (AreSnaps-object kept (meta_key (length entries)) bytes entries i.snaps (no_snap entries (meta_key (length entries)) bytes (meta_no_snap (length entries))));
   },
   held-enters kept entries log entry bytes i.stands e,
 )

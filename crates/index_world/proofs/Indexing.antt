@@ -27,10 +27,12 @@ use Rattle.index_world.specs.Config.{reads}
 use Rattle.index_world.specs.Configuration.{configuration}
 use Rattle.index_world.specs.Held.{NoneAtEnd, KeepsFor, KeepsHeld, All, Still, Enters, AfterLanding}
 use Rattle.index_world.specs.Index.{IsRowKept, AreRowsKept, IsLateKey, Stands, IsIndexOf, IsStagedKey, IsNotLate, IsUnused, IsFound, MayEnter, MayLand, IsBelowEnd, IsLateEntry, IsAllowed, HasStaged, has_staged, max_entries, is_meta, is_split}
+use Rattle.index_world.specs.Snaps.{IsSnapObject}
 use Rattle.index_world.proofs.Deleting.{Carries, MayEnter-carried, LateEntries-carried, keys_apart}
 use Rattle.index_world.proofs.Entering.{enters_both, unshown_more}
 use Rattle.index_world.proofs.InHand.{HasStaged-new}
 use Rattle.index_world.proofs.Journals.{stand-of, Stand-same, Stand-at, StandFrom-of, journal-end}
+use Rattle.index_world.proofs.SnapKeeping.{AreSnaps-late, AreSnaps-object, meta_no_snap, no_snap}
 use Rattle.index_world.proofs.StoreChanges.{All-snoc, staged_last}
 pub use Rattle.index_world.proofs.StoreChanges.{last_within}
 use Rattle.index_world.proofs.StoreKeys.{true_is_false, split_begins, meta_no_split, meta_is_no_split, split_key-injective, outside_apart, kept_at, absent_at, stood, get-other}
@@ -88,6 +90,7 @@ still-over kept place entries log i =
       index = record {
         stands = Stands-late kept (remove kept.late place) entries log i.stands (All-remove (IsLateKey entries) kept.late place i.stands.late_keys);
         late_entries = All-remove (IsLateEntry new entries log) kept.late place (LateEntries-carried kept new entries log kept.late carries i.late_entries);
+        snaps = AreSnaps-late kept (remove kept.late place) entries i.snaps (All-remove (IsSnapObject entries) kept.late place i.snaps.late);
       };
       enters = λ entry e. MayEnter-carried kept new entries log entry carries e;
       held = record {
@@ -181,12 +184,12 @@ Stands-object kept key bytes entries log s absent outside may =
         let e : m.0 ≡ n = keys_apart entries m.0 n s.legal s.within (staged_le (history entries) m.0 m.2) low (sym m.1 ∙ same) in
         true_is_false (sym shown ∙ ap (is_shown (history entries)) (sym e) ∙ m.3)
 
-pub object-more : (Kept : ℕ → Type 0) (kept : State) (key bytes : List ℕ) (entries : List Entry) (log : Log) → IsIndexOf kept entries log → get kept.objects key ≡ None → is_meta key ≡ false → MayStand entries key →
+pub object-more : (Kept : ℕ → Type 0) (kept : State) (key bytes : List ℕ) (entries : List Entry) (log : Log) → IsIndexOf kept entries log → get kept.objects key ≡ None → is_meta key ≡ false → MayStand entries key → IsSnapObject entries (key, bytes) →
     ((n : ℕ) → Kept n → IsUnused kept entries n → key ≡ split_key n → ⊥) →
     IsIndexOf (with_object kept key bytes) entries log × ((entry : Entry) → MayEnter kept entries log entry → MayEnter (with_object kept key bytes) entries log entry)
     × KeepsFor Kept All kept (with_object kept key bytes) entries entries
-object-more Kept kept key bytes entries log i absent outside may apart = (
-  record { stands = Stands-object kept key bytes entries log i.stands absent outside may; late_entries = LateEntries-carried kept (with_object kept key bytes) entries log kept.late carries i.late_entries },
+object-more Kept kept key bytes entries log i absent outside may snap apart = (
+  record { stands = Stands-object kept key bytes entries log i.stands absent outside may; late_entries = LateEntries-carried kept (with_object kept key bytes) entries log kept.late carries i.late_entries; snaps = AreSnaps-object kept key bytes entries i.snaps snap },
   λ entry e. MayEnter-carried kept (with_object kept key bytes) entries log entry carries e,
   record {
     configured = λ config e. e;
@@ -330,6 +333,7 @@ still-late old entries log n bytes i e =
         stands = Stands-late old (old.late ++ (meta_key n, bytes) ∷ []) entries log i.stands
             (All-snoc (IsLateKey entries) old.late (meta_key n, bytes) i.stands.late_keys (λ split. absurd (true_is_false (sym split ∙ meta_no_split n))));
         late_entries = All-snoc (IsLateEntry new entries log) old.late (meta_key n, bytes) (LateEntries-carried old new entries log old.late carries i.late_entries) (λ meta. e);
+        snaps = AreSnaps-late old (old.late ++ (meta_key n, bytes) ∷ []) entries i.snaps (All-snoc (IsSnapObject entries) old.late (meta_key n, bytes) i.snaps.late (no_snap entries (meta_key n) bytes (meta_no_snap n)));
       };
       enters = λ x h. MayEnter-carried old new entries log x carries h;
       held = record {
@@ -409,7 +413,7 @@ lands-absent kept place o entries log i at absent = by (is_meta o.0) refl
 
     file_lands : is_meta o.0 ≡ false → Still kept new entries log
     file_lands outside =
-        let b = object-more (λ n. o.0 ≡ split_key n → ⊥) less o.0 o.1 entries log over.index absent outside (λ split. All-get (IsLateKey entries) kept.late place o i.stands.late_keys at split) (λ n apart u. apart) in
+        let b = object-more (λ n. o.0 ≡ split_key n → ⊥) less o.0 o.1 entries log over.index absent outside (λ split. All-get (IsLateKey entries) kept.late place o i.stands.late_keys at split) (All-get (IsSnapObject entries) kept.late place o i.snaps.late at) (λ n apart u. apart) in
         record {
           index = b.0;
           enters = λ entry e. b.1 entry (over.enters entry e);

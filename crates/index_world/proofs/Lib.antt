@@ -10,6 +10,8 @@ pub mod Following
 pub mod Configured
 pub mod Timely
 pub mod Removed
+pub mod SnapKeeping
+pub mod SnapCalls
 pub mod Rows
 pub mod Deleting
 pub mod Entering

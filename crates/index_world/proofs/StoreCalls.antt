@@ -19,10 +19,12 @@ use Rattle.source_log.specs.Log.{Log}
 use Rattle.index_world.specs.Config.{reads}
 use Rattle.index_world.specs.Held.{NoneAtEnd, KeepsFor, All, But, Enters, Adopts, AfterLanding, AfterCreate, Goes, AfterUpload, AfterDelete, Loads}
 use Rattle.index_world.specs.Index.{IsIndexOf, IsLateKey, IsLateEntry, IsNotLate, IsUnused, IsStored, IsFound, IsGivenUp, MayEnter, OneEntry}
+use Rattle.index_world.specs.Snaps.{IsSnapObject}
 use Rattle.index_world.proofs.Deleting.{LateEntries-carried, keys_apart, index-deleted}
 use Rattle.index_world.proofs.Indexing.{Below, Object, longer, below_stands, Stands-late, object-more, keeps-trans, held-fewer, index-enters, index-tried, index-dead, index-HasLanded, Still-trans, Still-enters, Enters-still}
 use Rattle.index_world.proofs.Journals.{journal-end, one-journal}
 use Rattle.index_world.proofs.Removed.{get-gone}
+use Rattle.index_world.proofs.SnapKeeping.{AreSnaps-late, no_snap, split_no_snap}
 use Rattle.index_world.proofs.StoreChanges.{All-snoc}
 use Rattle.index_world.proofs.StoreKeys.{true_is_false, split_outside, none_some, get-same}
 
@@ -86,7 +88,7 @@ landed_to old mid entries log (inr (entry, enters)) = record { more = entries ++
 pub file-stands : (kept : State) (entries : List Entry) (log : Log) (n : ℕ) (bytes : List ℕ) → IsIndexOf kept entries log → IsUnused kept entries n →
     IsIndexOf (with_object kept (split_key n) bytes) entries log × KeepsFor (But n) All kept (with_object kept (split_key n) bytes) entries entries × IsStored (with_object kept (split_key n) bytes) entries n bytes
 file-stands kept entries log n bytes i u =
-    let b = object-more (But n) kept (split_key n) bytes entries log i u.absent (split_outside n) (λ split. (n, refl, u.staged, u.unshown))
+    let b = object-more (But n) kept (split_key n) bytes entries log i u.absent (split_outside n) (λ split. (n, refl, u.staged, u.unshown)) (no_snap entries (split_key n) bytes (split_no_snap n))
     (λ m apart v same. apart (sym (keys_apart entries n m i.stands.legal i.stands.within (staged_le (history entries) n u.staged) (staged_le (history entries) m v.staged) same))) in
     (b.0, b.2, record { staged = u.staged; file = get-same kept.objects (split_key n) bytes; not_late = u.not_late })
 
@@ -99,6 +101,7 @@ file-late kept entries log n bytes i u = (
         (LateEntries-carried kept new entries log kept.late
         (record { files = λ m b row found is stands. stands; lates = λ m b stands h. not_late m h (stands_apart m b stands) }) i.late_entries)
         (λ meta. absurd (true_is_false (sym meta ∙ split_outside n)));
+    snaps = AreSnaps-late kept (kept.late ++ o ∷ []) entries i.snaps (All-snoc (IsSnapObject entries) kept.late o i.snaps.late (no_snap entries (split_key n) bytes (split_no_snap n)));
   },
   record {
     configured = λ config e. e;
@@ -225,4 +228,5 @@ index-vacant log =
         late_keys = tt;
       };
       late_entries = tt;
+      snaps = record { standing = λ key bytes stands. absurd (none_some bytes (sym (finmap.get-empty (slice_cmp nat_cmp) key) ∙ stands)); late = tt };
     }

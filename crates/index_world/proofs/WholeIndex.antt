@@ -348,7 +348,7 @@ again_enters kept entries log object s a =
 
 index_whole : (kept : State) (entries : List Entry) (log : Log) → IsIndexOf kept entries log → IsWholeIndexOf kept entries log
 index_whole kept entries log i =
-    record { stands = i.stands; late_entries = All-each (IsLateEntry kept entries log) (IsBelowOrAgain kept entries log) kept.late (λ o k meta. by o (k meta)) i.late_entries }
+    record { stands = i.stands; late_entries = All-each (IsLateEntry kept entries log) (IsBelowOrAgain kept entries log) kept.late (λ o k meta. by o (k meta)) i.late_entries; snaps = i.snaps }
   where
     by : (o : Object) → IsBelowEnd entries o ⊎ MayLand kept entries log o → IsBelowEnd entries o ⊎ HoldsAgain kept entries log o
     by o (inl b) = inl b
@@ -356,7 +356,7 @@ index_whole kept entries log i =
 
 whole_index : (kept : State) (entries : List Entry) (log : Log) → IsWholeIndexOf kept entries log → IsIndexOf kept entries log
 whole_index kept entries log i =
-    record { stands = i.stands; late_entries = All-each (IsBelowOrAgain kept entries log) (IsLateEntry kept entries log) kept.late (λ o k meta. by o (k meta)) i.late_entries }
+    record { stands = i.stands; late_entries = All-each (IsBelowOrAgain kept entries log) (IsLateEntry kept entries log) kept.late (λ o k meta. by o (k meta)) i.late_entries; snaps = i.snaps }
   where
     by : (o : Object) → IsBelowEnd entries o ⊎ HoldsAgain kept entries log o → IsBelowEnd entries o ⊎ MayLand kept entries log o
     by o (inl b) = inl b
