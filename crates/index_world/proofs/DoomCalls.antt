@@ -127,9 +127,9 @@ IsDoomOf number before after answer r = ((answer ≡ Ok tt) × (r ≡ Ok (Some n
 pub dooms : (w w' : Keeping) (core : Core) (log : Log) (row : Row) (number n : ℕ) (key : List ℕ) (before after : ℕ) (answer : Result (Unit {0}) Failed) (r : Result (Option ℕ) WorldError) → (s : WorldStands w (asked_clock core) log) →
     next_in w w.moment ≡ Some row → row.number ≡ number → key ≡ split_key number → IsTimely core → AfterLanding w.told w'.told (Deletes key answer) → HasCause n w'.store_faults (IsErr answer) → n ≡ w.store_faults → w'.store_faults ≤ last_count →
     before ≡ core.store_faults → after ≡ w'.store_faults → IsDoomOf number before after answer r →
-    w'.clock ≡ w.clock → w'.moment ≡ w.moment → w'.meta ≡ w.meta → w'.next ≡ w.next → w'.unsure ≡ w.unsure → w'.frozen ≡ w.frozen → w'.marks ≡ w.marks → KeepsDoomed answer number w.doomed w'.doomed →
+    w'.clock ≡ w.clock → w'.moment ≡ w.moment → w'.meta ≡ w.meta → w'.next ≡ w.next → w'.unsure ≡ w.unsure → w'.frozen ≡ w.frozen → w'.marks ≡ w.marks → KeepsDoomed answer number w.doomed w'.doomed → w'.snapped ≡ w.snapped →
     ActsWith WorldStands None doom_call IsTrouble IsGiven r core log w'
-dooms w w' core log row number n key before after answer r s found is ek low step cause counts within at behind rel clock moment meta_is next unsure frozen marks doomed =
+dooms w w' core log row number n key before after answer r s found is ek low step cause counts within at behind rel clock moment meta_is next unsure frozen marks doomed snapped =
     by (told_of w.told w'.told s.kept (LandsThen (Deletes key answer)) s.told step)
   where
     now : ℕ
@@ -173,11 +173,12 @@ dooms w w' core log row number n key before after answer r s found is ek low ste
             frozen = frozen ∙ s.frozen ∙ ap (λ (k : ℕ × Bool). k.1) (sym d.clock);
             marks = λ k. ap (λ (ms : List Marking). taken_at ms k) marks ∙ s.marks k ∙ ap (λ (x : Upkeep). taken_at x.marks k) (sym d.upkeep);
             doomed = λ k. kept_doomed answer k doomed ∙ ap (λ (x : Upkeep). is_in x.doomed k) (sym d.upkeep);
+            snapped = snapped ∙ s.snapped ∙ ap (λ (x : Upkeep). x.snapped) (sym d.upkeep);
             opened = let l = ap length d.history in let some = s.opened in omega (arith, some, l);
           };
         }
       where
-        freed : (after : Core) (a : Result (Unit {0}) Failed) (m : ℕ) → after.history ≡ core.history → after.moment ≡ (asked_clock core).moment → upkeep_of after ≡ record { marks = core.marks; doomed = doomed_behind a m core.doomed } → MayFree (asked_clock core) m → AllByRecursion (MayFree after) after.doomed
+        freed : (after : Core) (a : Result (Unit {0}) Failed) (m : ℕ) → after.history ≡ core.history → after.moment ≡ (asked_clock core).moment → upkeep_of after ≡ record { marks = core.marks; doomed = doomed_behind a m core.doomed; snapped = core.snapped } → MayFree (asked_clock core) m → AllByRecursion (MayFree after) after.doomed
         freed after (Ok done) m h at up f =
             let le : (asked_clock core).moment ≤ after.moment = omega (arith, at) in
             let marks : after.marks ≡ core.marks = ap (λ (k : Upkeep). k.marks) up in

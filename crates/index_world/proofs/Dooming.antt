@@ -211,7 +211,7 @@ module _ (once : OneEntry) (old new : State) (core : Core) (log : Log) (config :
             faults = d.faults;
             moment = d.moment;
             clock = d.clock;
-            upkeep = λ j. record { marks = (d.upkeep j).marks; doomed = (d.upkeep j).doomed ++ row.number ∷ [] };
+            upkeep = λ j. record { marks = (d.upkeep j).marks; doomed = (d.upkeep j).doomed ++ row.number ∷ []; snapped = (d.upkeep j).snapped };
             unsure = d.unsure;
           }
       by (Err x) d = record { call = d.call; after = d.after; did = ap (λ o. doom_next o d.call core) e ∙ ap (dooming row.number) d.did; world = d.world; goes_on = d.goes_on; history = d.history; faults = d.faults; moment = d.moment; clock = d.clock; upkeep = d.upkeep; unsure = d.unsure }

@@ -10,7 +10,7 @@ use Rattle.meta_store.specs.History.{history as told}
 use Rattle.object_store.specs.Store.{State, with_object, with_late, HasLanded, LandsThen, Creates}
 use Rattle.object_store.specs.declared.store.CreateError.TheVariants as creates
 use Rattle.source_log.specs.Log.{Log}
-use Rattle.index_world.specs.Calls.{Effect, done_at_once, done_late, done_never, Call, Fate, calm_call, Gives, gives, Trouble, no_memory, Unread, not_read, no_index, store_failed, begun, file_by, file_made, upload_made, sought_by, file_sought, hindered, or_short, with_file, taken_in, with_standing, reborn, read_journal, unless_empty, load_by, loaded, may_fail, risen}
+use Rattle.index_world.specs.Calls.{Effect, done_at_once, done_late, done_never, Call, Fate, calm_call, Gives, gives, Trouble, no_memory, Unread, not_read, no_index, store_failed, begun, file_by, file_made, upload_made, sought_by, file_sought, hindered, or_short, with_file, taken_in, with_standing, read_journal, last_snap, unless_empty, load_by, loaded, may_fail, risen}
 use Rattle.index_world.specs.Calls as calls
 use Rattle.index_world.specs.Core.{Core, late_file, file_at, last_count, with_unread, journal_of, clock_of, upkeep_of, no_upkeep}
 use Rattle.index_world.specs.Index.{OneEntry, IsUnused, IsStored, is_meta}
@@ -28,10 +28,14 @@ use Rattle.index_world.proofs.JournalCalls.{Counted, Begun, quiet, failing, rose
 
 -- the fate of a call of the world that makes one store call, and of one that makes two
 abbrev pub one_call : Call → Fate
-one_call call = record { unasked = false; first = call; second = calm_call; third = calm_call }
+one_call call = record { unasked = false; snaps = calm_call; first = call; second = calm_call; third = calm_call }
 
 abbrev pub two_calls : Call → Call → Fate
-two_calls first second = record { unasked = false; first = first; second = second; third = calm_call }
+two_calls first second = record { unasked = false; snaps = calm_call; first = first; second = second; third = calm_call }
+
+-- of an opening: until the snapshot is known, until the journal is listed, and behind that
+abbrev pub opening_calls : Call → Call → Call → Fate
+opening_calls snaps first second = record { unasked = false; snaps = snaps; first = first; second = second; third = calm_call }
 
 -- ---- an upload
 
@@ -214,11 +218,11 @@ standing_taken kept core log None w e = (onward-refl kept core log w, ap (with_u
 standing_taken kept core log (Some entry) w e = (world-taken kept core log entry w e, ap (with_unread core.history) (sym e), refl, refl, refl)
 
 -- a history with what stands unread is that history and more
-unread_more : (es fs : List Entry) (standing : Option Entry) → fs ≡ es → (more : List Entry) × (with_unread fs standing ≡ es ++ more)
+pub unread_more : (es fs : List Entry) (standing : Option Entry) → fs ≡ es → (more : List Entry) × (with_unread fs standing ≡ es ++ more)
 unread_more es fs None e = ([], e ∙ sym (append-nil es))
 unread_more es fs (Some entry) e = (entry ∷ [], ap (λ h. h ++ entry ∷ []) e)
 
-pub record LoadLaw (old new : State) (core : Core) (log : Log) (read : List Entry) (answer : Result ⊤ Unread) (now : ℕ) : Type 0 where
+pub record LoadLaw (old new : State) (core : Core) (log : Log) (read : List Entry) (snapped : ℕ) (answer : Result ⊤ Unread) (now : ℕ) : Type 0 where
   pub fate : Fate
   pub after : Core
   pub did : loaded fate core ≡ gives answer after
@@ -229,7 +233,7 @@ pub record LoadLaw (old new : State) (core : Core) (log : Log) (read : List Entr
   pub faults : after.store_faults ≡ now
   pub moment : after.moment ≡ moment_of (told read)
   pub clock : clock_of after ≡ clock_of core
-  pub upkeep : upkeep_of after ≡ no_upkeep
+  pub upkeep : upkeep_of after ≡ no_upkeep snapped
   pub unsure : after.unsure ≡ false
 
 abbrev pub load_answer : List Entry → Result ⊤ Unread
@@ -240,12 +244,21 @@ empty_or_not : (es : List Entry) (core : Core) → unless_empty (length es == 0)
 empty_or_not [] core = refl
 empty_or_not (e ∷ es) core = ap (λ b. unless_empty b core) (number_apart (suc (length es)) 0 (λ same. omega (arith, same)))
 
--- what lands before the journal is read is read, what lands later is not
-pub load_law : OneEntry → (old mid new : State) (core : Core) (log : Log) (read : List Entry) (now : ℕ) → IsWorld old core log → Counted core now → HasLanded old mid → IsJournal mid read → HasLanded mid new →
-    LoadLaw old new core log read (load_answer read) now
-load_law once old mid new core log read now w c t j u =
+-- a store call more that lands this, at the same count
+abbrev quiet_on : List ℕ → Call
+quiet_on places = quiet places 0 false
+
+begins-on : OneEntry → (old mid new : State) (core start : Core) (log : Log) (now : ℕ) (t : HasLanded mid new) → Counted core now → Begun old mid core start log now → Begun mid new start (begun (quiet_on t.0) start) log now
+begins-on once old mid new core start log now t c b =
+    world-begins once mid new start log now (quiet_on t.0) b.onward.world
+    (record { later = let e = b.faults in omega (arith, e); within = c.within }) (let e : now - start.store_faults ≡ 0 = (let f = b.faults in omega (arith, f)) in sym e) t.1
+
+-- What lands before the snapshots are listed may be the last one; what lands before the journal is read is read, what lands later is not.
+pub load_law : OneEntry → (old listed mid new : State) (core : Core) (log : Log) (read : List Entry) (snapped now : ℕ) → IsWorld old core log → Counted core now → HasLanded old listed → ((start : Core) → IsWorld listed start log → last_snap start ≡ snapped) →
+    HasLanded listed mid → IsJournal mid read → HasLanded mid new → LoadLaw old new core log read snapped (load_answer read) now
+load_law once old listed mid new core log read snapped now w c t0 snap t j u =
     record {
-      fate = two_calls first second;
+      fate = opening_calls zeroth first second;
       after = begun second whole;
       did = ap (λ es. unless_empty (length es == 0) (begun second whole)) same ∙ empty_or_not read (begun second whole);
       onward = Reread-then old mid new core whole (begun second whole) log there last.onward;
@@ -254,39 +267,49 @@ load_law once old mid new core log read now w c t j u =
       history = last.history ∙ same;
       faults = last.faults;
       moment = last.moment ∙ ap (λ es. moment_of (told es)) same;
-      clock = last.clock ∙ s.3 ∙ b.clock;
-      upkeep = last.upkeep;
+      clock = last.clock ∙ s.3 ∙ b.clock ∙ a.clock;
+      upkeep = last.upkeep ∙ ap no_upkeep (snap begin a.onward.world);
       unsure = last.unsure;
     }
   where
+    zeroth : Call
+    zeroth = quiet t0.0 (now - core.store_faults) false
+
     first : Call
-    first = quiet t.0 (now - core.store_faults) false
+    first = quiet_on t.0
 
     second : Call
-    second = quiet u.0 0 false
+    second = quiet_on u.0
+
+    begin : Core
+    begin = begun zeroth core
+
+    a : Begun old listed core begin log now
+    a = world-begins once old listed core log now zeroth w c refl t0.1
 
     start : Core
-    start = begun first core
+    start = begun first begin
 
-    b : Begun old mid core start log now
-    b = world-begins once old mid core log now first w c refl t.1
+    b : Begun listed mid begin start log now
+    b = begins-on once old listed mid core begin log now t c a
 
     s : Onward mid mid start (with_standing start.standing start) log × ((with_standing start.standing start).history ≡ journal_of start) × ((with_standing start.standing start).standing ≡ None) × (clock_of (with_standing start.standing start) ≡ clock_of start)
         × ((with_standing start.standing start).store_faults ≡ start.store_faults)
     s = standing_taken mid start log start.standing b.onward.world refl
 
     more : (more : List Entry) × (journal_of start ≡ core.history ++ more)
-    more = unread_more core.history start.history start.standing b.history
+    more = unread_more core.history start.history start.standing (b.history ∙ a.history)
 
     whole : Core
-    whole = read_journal start
+    whole = read_journal (last_snap begin) start
 
     same : whole.history ≡ read
     same = s.1 ∙ one-journal once mid 0 (journal_of start) read b.onward.world.stands_for.journal j
 
     there : Reread old mid core whole log
-    there = Reread-behind old mid mid core (with_standing start.standing start) whole log (Onward-trans old mid mid core start (with_standing start.standing start) log b.onward s.0)
-        (record { world = world-reborn mid (with_standing start.standing start) log s.2 s.0.world; held = held-refl mid (journal_of (with_standing start.standing start)) })
+    there = Reread-behind old mid mid core (with_standing start.standing start) whole log
+        (Onward-trans old listed mid core begin (with_standing start.standing start) log a.onward (Onward-trans listed mid mid begin start (with_standing start.standing start) log b.onward s.0))
+        (record { world = world-reborn mid (with_standing start.standing start) log (last_snap begin) s.2 s.0.world; held = held-refl mid (journal_of (with_standing start.standing start)) })
 
     faults : whole.store_faults ≡ now
     faults = s.4 ∙ b.faults
@@ -307,68 +330,47 @@ pub record UnreadLaw (old new : State) (core : Core) (log : Log) (answer : Core 
   pub upkeep : upkeep_of after ≡ upkeep_of core
   pub unsure : after.unsure ≡ core.unsure
 
+module _ (once : OneEntry) (old mid new : State) (core : Core) (log : Log) (now : ℕ) (c : Counted core now) (zeroth : Call) (a : Begun old mid core (begun zeroth core) log now) (u : HasLanded mid new) where
+  begin : Core
+  begin = begun zeroth core
+
+  start : Core
+  start = begun (quiet_on u.0) begin
+
+  b : Begun mid new begin start log now
+  b = begins-on once old mid new core begin log now u c a
+
+  last : Begun new new start (begun (quiet_on []) start) log now
+  last = begins-on once mid new new begin start log now ([], refl) (record { later = let e = a.faults in omega (arith, e); within = c.within }) b
+
+  unread_by : (answer : Core → Result ⊤ Unread) → loaded (opening_calls zeroth (quiet_on u.0) (quiet_on [])) core ≡ gives (answer (begun (quiet_on []) start)) (begun (quiet_on []) start) → UnreadLaw old new core log answer now
+  unread_by answer did =
+      record {
+        fate = opening_calls zeroth (quiet_on u.0) (quiet_on []);
+        after = begun (quiet_on []) start;
+        did = did;
+        onward = Onward-trans old mid new core begin (begun (quiet_on []) start) log a.onward (Onward-trans mid new new begin start (begun (quiet_on []) start) log b.onward last.onward);
+        history = last.history ∙ b.history ∙ a.history;
+        faults = last.faults;
+        moment = last.moment ∙ b.moment ∙ a.moment;
+        clock = last.clock ∙ b.clock ∙ a.clock;
+        upkeep = last.upkeep ∙ b.upkeep ∙ a.upkeep;
+        unsure = last.unsure ∙ b.unsure ∙ a.unsure;
+      }
+
 -- the first call failed, or one behind it: what landed is all that was done
 pub load_failed_law : OneEntry → (old new : State) (core : Core) (log : Log) (now : ℕ) → IsWorld old core log → Counted core now → Rose core.store_faults now → HasLanded old new →
     UnreadLaw old new core log (λ after. Err (not_read (store_failed core.store_faults after))) now
 load_failed_law once old new core log now w c rose t =
-    record {
-      fate = two_calls first second;
-      after = begun second start;
-      did = ap (λ f. load_by false f second core.store_faults start) (ap (λ a. a || may_fail second start.store_faults) (rose_may core now c rose));
-      onward = Onward-trans old new new core start (begun second start) log b.onward last.onward;
-      history = last.history ∙ b.history;
-      faults = last.faults;
-      moment = last.moment ∙ b.moment;
-      clock = last.clock ∙ b.clock;
-      upkeep = last.upkeep ∙ b.upkeep;
-      unsure = last.unsure ∙ b.unsure;
-    }
-  where
-    first : Call
-    first = failing t.0 (now - core.store_faults) done_never
-
-    second : Call
-    second = quiet [] 0 false
-
-    start : Core
-    start = begun first core
-
-    b : Begun old new core start log now
-    b = world-begins once old new core log now first w c refl t.1
-
-    last : Begun new new start (begun second start) log now
-    last = world-begins once new new start log now second b.onward.world
-        (record { later = let e = b.faults in omega (arith, e); within = c.within }) (let e : now - start.store_faults ≡ 0 = (let f = b.faults in omega (arith, f)) in sym e) refl
+    let zeroth = failing t.0 (now - core.store_faults) done_never in
+    let begin = begun zeroth core in
+    let a : Begun old new core begin log now = world-begins once old new core log now zeroth w c refl t.1 in
+    unread_by once old new new core log now c zeroth a ([], refl) (λ after. Err (not_read (store_failed core.store_faults after)))
+    (ap (λ f. load_by false (f || false) (quiet_on []) core.store_faults (last_snap begin) (begun (quiet_on []) begin)) (rose_may core now c rose))
 
 -- No memory: what landed as it read, and behind it, is all that was done.
 pub load_short_law : OneEntry → (old mid new : State) (core : Core) (log : Log) (now : ℕ) → IsWorld old core log → Counted core now → HasLanded old mid → HasLanded mid new →
     UnreadLaw old new core log (λ after. Err (not_read no_memory)) now
 load_short_law once old mid new core log now w c t u =
-    record {
-      fate = two_calls first second;
-      after = begun second start;
-      did = refl;
-      onward = Onward-trans old mid new core start (begun second start) log b.onward last.onward;
-      history = last.history ∙ b.history;
-      faults = last.faults;
-      moment = last.moment ∙ b.moment;
-      clock = last.clock ∙ b.clock;
-      upkeep = last.upkeep ∙ b.upkeep;
-      unsure = last.unsure ∙ b.unsure;
-    }
-  where
-    first : Call
-    first = quiet t.0 (now - core.store_faults) true
-
-    second : Call
-    second = quiet u.0 0 false
-
-    start : Core
-    start = begun first core
-
-    b : Begun old mid core start log now
-    b = world-begins once old mid core log now first w c refl t.1
-
-    last : Begun mid new start (begun second start) log now
-    last = world-begins once mid new start log now second b.onward.world
-        (record { later = let e = b.faults in omega (arith, e); within = c.within }) (let e : now - start.store_faults ≡ 0 = (let f = b.faults in omega (arith, f)) in sym e) u.1
+    let zeroth = quiet t.0 (now - core.store_faults) true in
+    unread_by once old mid new core log now c zeroth (world-begins once old mid core log now zeroth w c refl t.1) u (λ after. Err (not_read no_memory)) refl

@@ -226,7 +226,7 @@ module _ (text : List ℕ) (clock : Option ℕ) (n now : ℕ) where
   bad_text_at error bad es none old new l = bad_text error bad old new (subst (λ (xs : List Entry). IsLoaded xs old new) none l)
 
   pub first_begun : (es : List Entry) (moment : ℕ) (entry : Entry) (r : Result Life WorldError) → es ≡ [] → IsOk (config_answer text) → entry ≡ create_at text moment → IsToldBy clock moment → moment < 2 ^ 62 → IfErr r (IsFaultBetween n now) →
-      IfOk r (λ life. LifeIs life (entry ∷ []) entry.moment false no_upkeep) → (old mid new : State) → LoadsEntries (Ok es) old mid → AppendsFirst entry r mid new → CreatesTo text clock n now r old new
+      IfOk r (λ life. LifeIs life (entry ∷ []) entry.moment false (no_upkeep 0)) → (old mid new : State) → LoadsEntries (Ok es) old mid → AppendsFirst entry r mid new → CreatesTo text clock n now r old new
   first_begun es moment entry r none ok is told below faults knows old mid new l a = by r faults knows a
     where
       loaded : IsLoaded [] old mid
@@ -235,14 +235,14 @@ module _ (text : List ℕ) (clock : Option ℕ) (n now : ℕ) where
       begin : MayBegin text old mid
       begin = record { vacant = loaded; config = ok }
 
-      by : (r : Result Life WorldError) → IfErr r (IsFaultBetween n now) → IfOk r (λ life. LifeIs life (entry ∷ []) entry.moment false no_upkeep) → AppendsFirst entry r mid new → CreatesTo text clock n now r old new
+      by : (r : Result Life WorldError) → IfErr r (IsFaultBetween n now) → IfOk r (λ life. LifeIs life (entry ∷ []) entry.moment false (no_upkeep 0)) → AppendsFirst entry r mid new → CreatesTo text clock n now r old new
       by (Ok life) faults knows a =
           record {
             moment = moment;
             asked = told;
             below = below;
             begins = (mid, begin, subst (λ (x : Entry). Tries 0 x (Ok tt) mid new) is a);
-            knows = subst (λ (x : Entry). LifeIs life (x ∷ []) x.moment false no_upkeep) is knows;
+            knows = subst (λ (x : Entry). LifeIs life (x ∷ []) x.moment false (no_upkeep 0)) is knows;
           }
       by (Err (errors.Memory e)) faults knows a = HasLanded-trans old mid new (landed_first old mid loaded) a
       by (Err (errors.StoreFault low high)) faults knows a = (inr (mid, begin, (moment, told, subst (λ (x : Entry). Tries 0 x create_failed mid new) is a)), faults.0, faults.1, faults.2)
@@ -273,6 +273,7 @@ creates_index text told now ticks clock life same old new h =
       frozen = refl;
       marks = h.knows.marks;
       doomed = h.knows.doomed;
+      snapped = h.knows.snapped;
     }
 
 pub creates_at : (text : List ℕ) (clock : Option ℕ) (told told' : Option State) (n now : ℕ) (r r' : Result Life WorldError) → r ≡ r' → WhereTold told told' (CreatesTo text clock n now r) → WhereTold told told' (CreatesTo text clock n now r')

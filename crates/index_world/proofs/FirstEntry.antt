@@ -84,7 +84,7 @@ module _ (old new : State) (core : Core) (log : Log) (text : List ℕ) (now : �
 
   -- the fate of the load, and of the create behind it
   abbrev fate_with : Fate → Call → Fate
-  fate_with fate call = record { unasked = false; first = fate.first; second = fate.second; third = call }
+  fate_with fate call = record { unasked = false; snaps = fate.snaps; first = fate.first; second = fate.second; third = call }
 
   none_by : (error : WorldError) (told' : Option State) (fate : Fate) (why : Uncreated) (after : Core) (more : List Entry) → told' ≡ Some new → created fate text core ≡ gives (Err why) after → Reread old new core after log →
       after.history ≡ core.history ++ more → after.store_faults ≡ now → IsUncreated error why → Leaves text why core after → CreatesNone text core log error told' now
@@ -204,7 +204,7 @@ module _ (old new : State) (core : Core) (log : Log) (text : List ℕ) (now : �
       noted : upkeep_of after ≡ noting asked.moment (upkeep_of asked) first
       noted = noted_same asked m.after first m.moment m.upkeep
 
-      none_noted : upkeep_of after ≡ no_upkeep
+      none_noted : upkeep_of after ≡ no_upkeep 0
       none_noted = noted ∙ ap (λ (k : Upkeep). noting asked.moment k first) l.upkeep
 
       ends : Ends asked after (first ∷ []) false now
@@ -239,7 +239,7 @@ module _ (old new : State) (core : Core) (log : Log) (text : List ℕ) (now : �
       moment_is : after.moment ≡ moment
       moment_is = let e = m.moment in let t = time in omega (arith, e, t, at)
 
-      world_made : {has : ℕ} (told' : Option State) (clock : Option ℕ) (life : Life) → told' ≡ Some new → clock ≡ Some core.clock → LifeIs life (create_at text moment ∷ []) moment false no_upkeep → CreatesWorld text core log (kept_by has told' now clock life false)
+      world_made : {has : ℕ} (told' : Option State) (clock : Option ℕ) (life : Life) → told' ≡ Some new → clock ≡ Some core.clock → LifeIs life (create_at text moment ∷ []) moment false (no_upkeep 0) → CreatesWorld text core log (kept_by has told' now clock life false)
       world_made told' clock life tells ticks k =
           let knows = knows_of life (create_at text moment ∷ []) after.history moment after.moment false false (ap (λ (n : ℕ). create_at text n ∷ []) at ∙ sym whole) (sym moment_is) refl (sym none_noted) k in
           record {
@@ -259,6 +259,7 @@ module _ (old new : State) (core : Core) (log : Log) (text : List ℕ) (now : �
               frozen = sym awake ∙ ap (λ (x : ℕ × Bool). x.1) (sym clock_same);
               marks = knows.marks;
               doomed = knows.doomed;
+              snapped = knows.snapped;
               opened = let e = ap length whole in omega (arith, e);
             };
             none = none;

@@ -71,11 +71,12 @@ kept_by given told count clock life frozen =
       frozen = frozen;
       marks = life.marks.items;
       doomed = life.doomed.numbers.items;
+      snapped = life.snapped;
     }
 
 pub stands_of : {had : ℕ} (told : Option State) (count : ℕ) (clock : Option ℕ) (life : Life) (frozen : Bool) (core : Core) (log : Log) → count ≤ last_count → (s : WorldStands (kept_by had told count clock life frozen) core log) → StandsBy s.kept core log count life
 stands_of told count clock life frozen core log within s =
-    record { world = s.world; timely = s.timely; faults = s.store_faults; within = within; knows = record { next = s.next; unsure = s.unsure; moment = s.moment; meta = s.meta; marks = s.marks; doomed = s.doomed }; opened = s.opened }
+    record { world = s.world; timely = s.timely; faults = s.store_faults; within = within; knows = record { next = s.next; unsure = s.unsure; moment = s.moment; meta = s.meta; marks = s.marks; doomed = s.doomed; snapped = s.snapped }; opened = s.opened }
 
 -- the world asks its clock where its core does
 asked_alike : (w : Keeping) (core : Core) (log : Log) → WorldStands w core log → asked_moment w.frozen w.moment core.clock ≡ (asked_clock core).moment
@@ -99,6 +100,7 @@ world_asks w w' core log s e =
       frozen = s.frozen;
       marks = s.marks;
       doomed = s.doomed;
+      snapped = s.snapped;
       opened = s.opened;
     })
 
@@ -124,6 +126,7 @@ world_freezes w w' core log e s =
       frozen = refl;
       marks = s.marks;
       doomed = s.doomed;
+      snapped = s.snapped;
       opened = s.opened;
     })
 
@@ -144,6 +147,7 @@ clocked w core log given moment s low e =
       frozen = s.frozen;
       marks = s.marks;
       doomed = s.doomed;
+      snapped = s.snapped;
       opened = s.opened;
     }
 
@@ -169,6 +173,7 @@ world_by new start after log more doubt now told clock life frozen call one core
       frozen = f ∙ ap (λ (k : ℕ × Bool). k.1) (sym u.ends.clock);
       marks = λ n. k.marks n ∙ ap (λ (x : Upkeep). taken_at x.marks n) (sym u.ends.upkeep);
       doomed = λ n. k.doomed n ∙ ap (λ (x : Upkeep). is_in x.doomed n) (sym u.ends.upkeep);
+      snapped = k.snapped ∙ ap (λ (x : Upkeep). x.snapped) (sym u.ends.upkeep);
       opened = u.stands.opened;
     }
 
@@ -233,6 +238,7 @@ module _ {had : ℕ} (told told' : Option State) (n now : ℕ) (clock : Option �
           frozen = s.frozen ∙ ap (λ (k : ℕ × Bool). k.1) (sym x.did.ends.clock);
           marks = x.stands.knows.marks;
           doomed = x.stands.knows.doomed;
+          snapped = x.stands.knows.snapped;
           opened = x.stands.opened;
         };
       }
@@ -502,7 +508,7 @@ uploads {had} {has} told told' n now clock life frozen core log s number key byt
     unused = unused-of s.kept core number s.world.stands_for u
 
     knows : LifeIs life core.history core.moment core.unsure (upkeep_of core)
-    knows = record { next = s.next; unsure = s.unsure; moment = s.moment; meta = s.meta; marks = s.marks; doomed = s.doomed }
+    knows = record { next = s.next; unsure = s.unsure; moment = s.moment; meta = s.meta; marks = s.marks; doomed = s.doomed; snapped = s.snapped }
 
     lands : (answer : Result ⊤ CreateError) (new : State) → LandsThen (Creates key bytes answer) s.kept new → LandsThen (Creates (split_key number) bytes answer) s.kept new
     lands answer new l = subst (λ (k : List ℕ). LandsThen (Creates k bytes answer) s.kept new) ek l
@@ -583,7 +589,7 @@ fetches {had} {has} grace told told' n now clock life frozen core log s low numb
     counted = record { later = let a = cause.later in let f = s.store_faults in omega (arith, a, f); within = within }
 
     knows : LifeIs life core.history (asked_clock core).moment core.unsure (upkeep_of core)
-    knows = record { next = s.next; unsure = s.unsure; moment = s.moment; meta = s.meta; marks = s.marks; doomed = s.doomed }
+    knows = record { next = s.next; unsure = s.unsure; moment = s.moment; meta = s.meta; marks = s.marks; doomed = s.doomed; snapped = s.snapped }
 
     ends_by : (r : Result Piece WorldError) (new : State) (a : Core → Result ⊤ Unfetched) → told' ≡ Some new → (f : Fetches grace number s.kept new core log a now) → Says IsUnfetched (IsPieceGiven number from len) r (a f.after) f.after → IsFetch grace number from len core log (kept_by has told' now clock life frozen) r
     ends_by r new a tells f says =

@@ -62,7 +62,7 @@ world-begins once old mid core log now call w c rises at =
       faults = l.same.store_faults ∙ ap (risen core.store_faults) rises ∙ risen_is core now c;
       moment = l.same.moment;
       clock = l.same.clock;
-      upkeep = λ j. record { marks = l.same.marks j; doomed = l.same.doomed j };
+      upkeep = λ j. record { marks = l.same.marks j; doomed = l.same.doomed j; snapped = l.same.snapped j };
       unsure = l.same.unsure;
       enters = λ none entry may. l.enters none entry (may (l.was none));
     })

@@ -79,6 +79,7 @@ knows_of life entries es time t doubt d e m u n k =
       meta = k.meta ∙ ap (λ (x : List Entry). state_of reads (history x)) e;
       marks = λ number. k.marks number ∙ ap (λ (x : Upkeep). taken_at x.marks number) n;
       doomed = λ number. k.doomed number ∙ ap (λ (x : Upkeep). is_in x.doomed number) n;
+      snapped = k.snapped ∙ ap (λ (x : Upkeep). x.snapped) n;
     }
 
 -- the same but for the place
@@ -92,11 +93,12 @@ life_on life new entries time doubt d k n m t s u =
       meta = m ∙ k.meta;
       marks = λ number. ap (λ (x : List Marking). taken_at x number) s.0 ∙ k.marks number;
       doomed = λ number. ap (λ (x : Doomed). is_in x.numbers.items number) s.1 ∙ k.doomed number;
+      snapped = s.2 ∙ k.snapped;
     }
 
 -- what is noted of an entry that is taken in at a moment
 abbrev pub Notes : Life → Life → Entry → (moment : ℕ) → Type 0
-Notes life new entry moment = (new.marks.items ≡ life.marks.items ++ marks_of entry.act moment) × (new.doomed ≡ life.doomed)
+Notes life new entry moment = (new.marks.items ≡ life.marks.items ++ marks_of entry.act moment) × (new.doomed ≡ life.doomed) × (new.snapped ≡ life.snapped)
 
 -- an entry more
 pub life_more : {upkeep : Upkeep} (life new : Life) (entries : List Entry) (time t : ℕ) (doubt : Bool) (entry : Entry) → LifeIs life entries time doubt upkeep → new.journal.next ≡ life.journal.next + 1 → new.journal.place ≡ Sure →
@@ -111,13 +113,14 @@ life_more {upkeep} life new entries time t doubt entry k n p m same noted =
           ap (λ (x : List Marking). taken_at x number) noted.0 ∙ taken-append life.marks.items (marks_of entry.act (max time entry.moment)) number
           ∙ ap (λ (x : ℕ). max x (taken_at (marks_of entry.act (max time entry.moment)) number)) (k.marks number) ∙ sym (taken-append upkeep.marks (marks_of entry.act (max time entry.moment)) number);
       doomed = λ number. ap (λ (x : Doomed). is_in x.numbers.items number) noted.1 ∙ k.doomed number;
+      snapped = noted.2 ∙ k.snapped;
     }
 
 pub life_taken : {upkeep : Upkeep} (mid new : Life) (entries : List Entry) (time : ℕ) (doubt : Bool) (entry : Entry) → LifeIs mid entries time doubt upkeep → TookIn mid entry new → entry.moment < 2 ^ 62 →
     LifeIs new (entries ++ entry ∷ []) (max time entry.moment) false (noting time upkeep entry)
 life_taken mid new entries time doubt entry k t low =
     life_more mid new entries time (max time entry.moment) doubt entry k (ap (λ (j : Numbered). j.next) t.journal) (ap (λ (j : Numbered). j.place) t.journal) t.meta
-    (t.moment low ∙ ap (λ (m : ℕ). max m entry.moment) k.moment) (t.marks low ∙ ap (λ (m : ℕ). mid.marks.items ++ marks_of entry.act (max m entry.moment)) k.moment, t.doomed)
+    (t.moment low ∙ ap (λ (m : ℕ). max m entry.moment) k.moment) (t.marks low ∙ ap (λ (m : ℕ). mid.marks.items ++ marks_of entry.act (max m entry.moment)) k.moment, t.doomed, t.snapped)
 
 pub stands_by : (new : State) (core after : Core) (log : Log) (count : ℕ) (life : Life) (more : List Entry) (doubt : Bool) → 0 < length core.history → count ≤ last_count → IsWorld new after log → IsTimely after → Ends core after more doubt count →
     LifeIs life (core.history ++ more) (greatest core.moment more) doubt (noted_behind core.moment (upkeep_of core) more) → StandsBy new after log count life

@@ -174,7 +174,7 @@ opens_life es n now life some none j m time nothing old new l =
 
 pub opens_world : {has : ℕ} (told : Option State) (now : ℕ) (clock : Option ℕ) (life : Life) (frozen : Bool) (old new : State) → FindsLife life old new → OpensIndex (kept_by has told now clock life frozen) old new
 opens_world told now clock life frozen old new f =
-    record { entries = f.entries; finds = f.finds; next = f.knows.next; meta = f.knows.meta; moment = f.knows.moment; unsure = f.knows.unsure; marks = f.knows.marks; doomed = f.knows.doomed }
+    record { entries = f.entries; finds = f.finds; next = f.knows.next; meta = f.knows.meta; moment = f.knows.moment; unsure = f.knows.unsure; marks = f.knows.marks; doomed = f.knows.doomed; snapped = f.knows.snapped }
 
 -- the world from which it was opened
 pub told_from : (w w' : Keeping) (new : Option State) (Says : ℕ → State → State → Type 0) → w ≡ w' → WhereTold w.told new (Says w.store_faults) → WhereTold w'.told new (Says w'.store_faults)

@@ -64,7 +64,7 @@ call_late kept entries log (o ∷ late) h = by (is_meta o.0) refl h.0 (call_late
 pub record Opening (kept : State) (history : List Entry) (log : Log) (count clock : ℕ) : Type 0 where
   pub files : List File
   pub late : List Late
-  pub world : IsWorld kept (record { history = history; store_faults = count; moment = moment_of (told history); clock = clock; frozen = false; files = files; unsure = false; standing = None; late = late; marks = []; doomed = [] }) log
+  pub world : IsWorld kept (record { history = history; store_faults = count; moment = moment_of (told history); clock = clock; frozen = false; files = files; unsure = false; standing = None; late = late; marks = []; doomed = []; snapped = 0 }) log
 
 pub index_opens : (kept : State) (history : List Entry) (log : Log) (count clock : ℕ) → IsIndexOf kept history log → Opening kept history log count clock
 index_opens kept history log count clock i =
@@ -81,6 +81,6 @@ index_opens kept history log count clock i =
         };
         index = i;
         taken = i.stands.rows;
-        removes = born-removes kept (record { history = history; store_faults = count; moment = moment_of (told history); clock = clock; frozen = false; files = map to_file (entries kept.objects); unsure = false; standing = None; late = c.lates; marks = []; doomed = [] }) log i refl refl c.are c.called;
+        removes = born-removes kept (record { history = history; store_faults = count; moment = moment_of (told history); clock = clock; frozen = false; files = map to_file (entries kept.objects); unsure = false; standing = None; late = c.lates; marks = []; doomed = []; snapped = 0 }) log i refl refl c.are c.called;
       };
     }

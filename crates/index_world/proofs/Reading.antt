@@ -180,6 +180,7 @@ loads_world core log life told now clock o c awake = record { after = o.did.afte
           frozen = f;
           marks = s.knows.marks;
           doomed = s.knows.doomed;
+          snapped = s.knows.snapped;
           opened = s.opened;
         }
 
@@ -209,6 +210,7 @@ loads_anew_ok core log life told now clock frozen o c f =
         frozen = f ∙ ap (λ (k : ℕ × Bool). k.1) (sym o.did.clock);
         marks = s.knows.marks;
         doomed = s.knows.doomed;
+        snapped = s.knows.snapped;
         opened = s.opened;
       };
     }
@@ -239,6 +241,7 @@ loads_anew_err core log life told told' n now clock frozen x s o (Err error) Is 
         frozen = s.frozen ∙ ap (λ (x : ℕ × Bool). x.1) (sym k.clock);
         marks = λ number. s.marks number ∙ ap (λ (x : Upkeep). taken_at x.marks number) (sym k.upkeep);
         doomed = λ number. s.doomed number ∙ ap (λ (x : Upkeep). is_in x.doomed number) (sym k.upkeep);
+        snapped = s.snapped ∙ ap (λ (x : Upkeep). x.snapped) (sym k.upkeep);
         opened = let l = ap length k.history in let some = s.opened in omega (arith, l, some);
       };
     }

@@ -152,6 +152,7 @@ stands_begun w core log new told' now given call s b t =
       frozen = s.frozen ∙ ap (λ (k : ℕ × Bool). k.1) (sym b.clock);
       marks = λ n. s.marks n ∙ ap (λ (u : Upkeep). taken_at u.marks n) (sym b.upkeep);
       doomed = λ n. s.doomed n ∙ ap (λ (u : Upkeep). is_in u.doomed n) (sym b.upkeep);
+      snapped = s.snapped ∙ ap (λ (u : Upkeep). u.snapped) (sym b.upkeep);
       opened = let l = ap length b.history in let some = s.opened in omega (arith, some, l);
     }
 

@@ -90,6 +90,7 @@ sweeps {had} {has} told told' n now clock life frozen core log s number key befo
             frozen = s.frozen ∙ ap (λ (k : ℕ × Bool). k.1) (sym d.clock);
             marks = λ n. s.marks n ∙ ap (λ (x : Upkeep). taken_at x.marks n) (sym d.upkeep);
             doomed = λ n. s.doomed n ∙ ap (λ (x : Upkeep). is_in x.doomed n) (sym d.upkeep);
+            snapped = s.snapped ∙ ap (λ (x : Upkeep). x.snapped) (sym d.upkeep);
             opened = let l = ap length d.history in let some = s.opened in omega (arith, some, l);
           };
         }

@@ -37,6 +37,7 @@ keeping_of kept core =
       frozen = core.frozen;
       marks = core.marks;
       doomed = core.doomed;
+      snapped = core.snapped;
     }
 
 -- A whole call did this: it is the core's call with some fate, its answer is this one, and the world stands behind it.
@@ -70,6 +71,7 @@ stands_behind new start after log more doubt now some w t e =
       frozen = refl;
       marks = λ n. refl;
       doomed = λ n. refl;
+      snapped = refl;
       opened = let l = ap length e.history in let a = length-append start.history more in omega (arith, some, l, a);
     }
 

@@ -155,6 +155,7 @@ whole_loaded old mid new core log read now w clock some l j =
         frozen = refl;
         marks = λ n. refl;
         doomed = λ n. refl;
+        snapped = refl;
         opened = let e = ap length l.history in omega (arith, e, some);
       };
     }

@@ -47,7 +47,7 @@ pub held-refl : (kept : State) (entries : List Entry) → KeepsHeld kept kept en
 held-refl kept entries = record { configured = λ config e. e; unused = λ n all u. u; found = λ n bytes u. u; stored = λ n bytes stays u. u; left = λ n bytes u. u; shown = λ n e. e; staged = λ n d f h. h; given_up = λ n g. g }
 
 pub SameLife-refl : (core : Core) → SameLife core core
-SameLife-refl core = record { history = refl; marks = refl; doomed = refl; store_faults = refl; moment = refl; clock = refl; unsure = refl }
+SameLife-refl core = record { history = refl; marks = refl; doomed = refl; snapped = refl; store_faults = refl; moment = refl; clock = refl; unsure = refl }
 
 pub SameLife-trans : (a b c : Core) → SameLife a b → SameLife b c → SameLife a c
 SameLife-trans a b c x y =
@@ -55,6 +55,7 @@ SameLife-trans a b c x y =
       history = y.history ∙ x.history;
       marks = y.marks ∙ x.marks;
       doomed = y.doomed ∙ x.doomed;
+      snapped = y.snapped ∙ x.snapped;
       store_faults = y.store_faults ∙ x.store_faults;
       moment = y.moment ∙ x.moment;
       clock = y.clock ∙ x.clock;
@@ -101,15 +102,15 @@ same-lands : (late : Late) (place : ℕ) (core : Core) → SameLife core (withou
 same-lands (late_entry n e b) place core = by core.standing (n == length core.history)
   where
     by : (standing : Option Entry) (test : Bool) → SameLife core (without_late place (entry_lands standing test e core))
-    by None true = record { history = refl; marks = refl; doomed = refl; store_faults = refl; moment = refl; clock = refl; unsure = refl }
-    by None false = record { history = refl; marks = refl; doomed = refl; store_faults = refl; moment = refl; clock = refl; unsure = refl }
-    by (Some u) test = record { history = refl; marks = refl; doomed = refl; store_faults = refl; moment = refl; clock = refl; unsure = refl }
-same-lands (late_dead key bytes) place core = record { history = refl; marks = refl; doomed = refl; store_faults = refl; moment = refl; clock = refl; unsure = refl }
+    by None true = record { history = refl; marks = refl; doomed = refl; snapped = refl; store_faults = refl; moment = refl; clock = refl; unsure = refl }
+    by None false = record { history = refl; marks = refl; doomed = refl; snapped = refl; store_faults = refl; moment = refl; clock = refl; unsure = refl }
+    by (Some u) test = record { history = refl; marks = refl; doomed = refl; snapped = refl; store_faults = refl; moment = refl; clock = refl; unsure = refl }
+same-lands (late_dead key bytes) place core = record { history = refl; marks = refl; doomed = refl; snapped = refl; store_faults = refl; moment = refl; clock = refl; unsure = refl }
 same-lands (late_file key bytes) place core = by (is_some (file_at core.files key))
   where
     by : (stands : Bool) → SameLife core (without_late place (file_lands stands key bytes core))
-    by true = record { history = refl; marks = refl; doomed = refl; store_faults = refl; moment = refl; clock = refl; unsure = refl }
-    by false = record { history = refl; marks = refl; doomed = refl; store_faults = refl; moment = refl; clock = refl; unsure = refl }
+    by true = record { history = refl; marks = refl; doomed = refl; snapped = refl; store_faults = refl; moment = refl; clock = refl; unsure = refl }
+    by false = record { history = refl; marks = refl; doomed = refl; snapped = refl; store_faults = refl; moment = refl; clock = refl; unsure = refl }
 
 was-lands : (late : Late) (place : ℕ) (core : Core) → (without_late place (late_lands late core)).standing ≡ None → core.standing ≡ None
 was-lands (late_entry n e b) place core h = by core.standing (n == length core.history) refl h
@@ -208,13 +209,13 @@ world-frozen kept core log w =
     }
 
 -- A new life, with nothing unread: it forgets the moments and the marks of the old one.
-pub world-reborn : (kept : State) (core : Core) (log : Log) → core.standing ≡ None → IsWorld kept core log → IsWorld kept (reborn core) log
-world-reborn kept core log none w =
+pub world-reborn : (kept : State) (core : Core) (log : Log) (snapped : ℕ) → core.standing ≡ None → IsWorld kept core log → IsWorld kept (reborn snapped core) log
+world-reborn kept core log snapped none w =
     record {
       stands_for = record { journal = w.stands_for.journal; files = w.stands_for.files; late = w.stands_for.late; called = w.stands_for.called };
       index = w.index;
       taken = w.taken;
-      removes = born-removes kept (reborn core) log (subst (λ es. IsIndexOf kept es log) (journal_is_history core none) w.index) refl none w.stands_for.late w.stands_for.called;
+      removes = born-removes kept (reborn snapped core) log (subst (λ es. IsIndexOf kept es log) (journal_is_history core none) w.index) refl none w.stands_for.late w.stands_for.called;
     }
 
 -- the same journal, files and late creates

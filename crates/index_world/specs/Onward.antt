@@ -24,6 +24,7 @@ pub record SameLife (core after : Core) : Type 0 where
   pub history : after.history ≡ core.history
   pub marks : after.marks ≡ core.marks
   pub doomed : after.doomed ≡ core.doomed
+  pub snapped : after.snapped ≡ core.snapped
   pub store_faults : after.store_faults ≡ core.store_faults
   pub moment : after.moment ≡ core.moment
   pub clock : clock_of after ≡ clock_of core

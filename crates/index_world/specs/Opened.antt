@@ -15,7 +15,7 @@ use Rattle.meta_store.specs.Parts.{state_from}
 use Rattle.meta_store.specs.Restoring.{CanRestore}
 use Rattle.meta_store.specs.State.{state_of}
 use Rattle.meta_store.specs.State as meta
-use Rattle.object_store.specs.Store.{State, HasLanded}
+use Rattle.object_store.specs.Store.{State, HasLanded, is_behind}
 use Rattle.index_world.specs.Answering.{answer_in, behind as state_after}
 use Rattle.index_world.specs.Config.{reads}
 use Rattle.index_world.specs.Core.{taken_at, is_in}
@@ -97,15 +97,19 @@ pub record Finds (start : meta.State) (found : Found) (old new : State) : Type 0
 
 -- ---- what opening begins with
 
--- no key stood under `snap/` at the start
+-- no key stood under `snap/` as it was listed
 pub record HasNoSnap (old mid : State) : Type 0 where
   pub landed : HasLanded old mid
-  pub none : (key : List ℕ) → is_snap key ≡ true → get old.objects key ≡ None
+  pub none : (key : List ℕ) → is_snap key ≡ true → get mid.objects key ≡ None
 
--- the last snapshot: each key under `snap/` at the start is that of a snapshot with this number or a lower one
-pub record IsLastSnap (number : ℕ) (bytes : List ℕ) (old mid : State) : Type 0 where
-  pub landed : HasLanded old mid
+-- The last snapshot: as these were listed no key under `snap/` stood behind its own, and each that stood at the start is that of a snapshot
+-- with this number or a lower one.
+pub record IsLastSnap (number : ℕ) (bytes : List ℕ) (old new : State) : Type 0 where
+  pub mid : State
+  pub before : HasLanded old mid
+  pub behind : HasLanded mid new
   pub stands : get mid.objects (snap_key number) ≡ Some bytes
+  pub greatest : (key : List ℕ) → is_snap key ≡ true → IsSome (get mid.objects key) → is_behind (Some (snap_key number)) key ≡ false
   pub last : (key : List ℕ) → is_snap key ≡ true → IsSome (get old.objects key) → (n : ℕ) × (n ≤ number) × (key ≡ snap_key n)
 
 -- the state of a snapshot: its bytes are read as parts from which it can be restored, and its revision is its key's number
@@ -126,10 +130,8 @@ BeginsAt (suc n) start old mid = (bytes : List ℕ) × IsLastSnap (suc n) bytes 
 pub record IsSpoiltSnap (key : List ℕ) (old new : State) : Type 0 where
   pub number : ℕ
   pub bytes : List ℕ
-  pub mid : State
   pub key_is : key ≡ snap_key number
-  pub last : IsLastSnap number bytes old mid
-  pub behind : HasLanded mid new
+  pub last : IsLastSnap number bytes old new
   pub none : (start : meta.State) → IsRestored number bytes start → ⊥
 
 -- a key under `snap/` that is no snapshot's

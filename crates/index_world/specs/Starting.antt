@@ -73,10 +73,12 @@ abbrev pub PagesSnaps : (last : Option ℕ) → Result SnapPage WorldError → S
 PagesSnaps last (Ok page) old new = HasLanded old new × HasSnapPage last page new
 PagesSnaps last (Err error) old new = MeetsNone error old new
 
--- the key of the last snapshot: it stands, and each key under `snap/` at the start is that of a snapshot with this number or a lower one
+-- the key of the last snapshot: it stands, no key under `snap/` stands behind it, and each that stood at the start is that of a snapshot
+-- with this number or a lower one
 pub record IsLastKey (number : ℕ) (old new : State) : Type 0 where
   pub landed : HasLanded old new
   pub stands : IsSome (get new.objects (snap_key number))
+  pub greatest : (key : List ℕ) → is_snap key ≡ true → IsSome (get new.objects key) → is_behind (Some (snap_key number)) key ≡ false
   pub last : (key : List ℕ) → is_snap key ≡ true → IsSome (get old.objects key) → (n : ℕ) × (n ≤ number) × (key ≡ snap_key n)
 
 abbrev pub ListsSnaps : Result (Option ℕ) WorldError → State → State → Type 0

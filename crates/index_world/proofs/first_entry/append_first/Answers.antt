@@ -56,6 +56,7 @@ returns-in-Ok-append-clause-knows g c =
       meta = first_state c.args.entry c.args.reading c.in-Ok.handed _ _ _ c.apply.ensures c.in-Ok.ensures.handed c.prepare.ensures.same (c.vacant-meta.ensures reads) c.requires.read;
       marks = λ n. ap (λ (ms : List Marking). taken_at ms n) c.new.ensures.items;
       doomed = λ n. ap (λ (ns : List ℕ). is_in ns n) c.vacant.ensures;
+      snapped = refl;
     }
 
 pub returns-in-Ok-append-clause-answer : goal.returns-in-Ok-append-clause-answer

@@ -37,7 +37,7 @@ returns-in-Ok-clause-step g c core log s =
     let count = c.faults-after.ensures in
     let fits = c.faults-after.type_inv in
     dooms asked _ core log one.0 c.in-Some.number asked.store_faults c.split_key.result c.faults-before.result c.faults-after.result c.delete-answer.result _ s1 one.1 one.2 c.split_key.ensures t.timely c.delete-answer.ensures.step c.delete-answer.ensures.cause refl
-    (omega (arith, count, fits)) (c.faults-before.ensures ∙ t.store_faults) count (inl (c.in-Ok.is, refl)) refl refl refl refl refl refl refl (subst (λ (a : Result (Unit {0}) Failed). KeepsDoomed a c.in-Some.number asked.doomed c.insert.new.self.numbers.items) (sym c.in-Ok.is) c.insert.ensures)
+    (omega (arith, count, fits)) (c.faults-before.ensures ∙ t.store_faults) count (inl (c.in-Ok.is, refl)) refl refl refl refl refl refl refl (subst (λ (a : Result (Unit {0}) Failed). KeepsDoomed a c.in-Some.number asked.doomed c.insert.new.self.numbers.items) (sym c.in-Ok.is) c.insert.ensures) refl
 
 pub returns-in-Err-clause-step : goal.returns-in-Err-clause-step
 returns-in-Err-clause-step g c core log s =
@@ -51,7 +51,7 @@ returns-in-Err-clause-step g c core log s =
     let count = c.faults-after.ensures in
     let fits = c.faults-after.type_inv in
     dooms asked _ core log one.0 c.in-Some.number asked.store_faults c.split_key.result c.faults-before.result c.faults-after.result c.delete-answer.result _ s1 one.1 one.2 c.split_key.ensures t.timely c.delete-answer.ensures.step c.delete-answer.ensures.cause refl
-    (omega (arith, count, fits)) (c.faults-before.ensures ∙ t.store_faults) count (inr (c.in-Err.field-0, c.in-Err.is, refl)) refl refl refl refl refl refl refl (subst (λ (a : Result (Unit {0}) Failed). KeepsDoomed a c.in-Some.number asked.doomed asked.doomed) (sym c.in-Err.is) refl)
+    (omega (arith, count, fits)) (c.faults-before.ensures ∙ t.store_faults) count (inr (c.in-Err.field-0, c.in-Err.is, refl)) refl refl refl refl refl refl refl (subst (λ (a : Result (Unit {0}) Failed). KeepsDoomed a c.in-Some.number asked.doomed asked.doomed) (sym c.in-Err.is) refl) refl
 
 -- ---- over every store
 
