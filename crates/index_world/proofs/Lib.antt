@@ -12,6 +12,7 @@ pub mod Timely
 pub mod Removed
 pub mod SnapKeeping
 pub mod SnapCalls
+pub mod SnapPages
 pub mod Rows
 pub mod Deleting
 pub mod Entering

@@ -3,8 +3,12 @@ use Rattle.std.specs.Prelude.{◌≡◌, ℕ, ◌+◌, ◌<◌, ◌≤◌, ◌^�
 use Rattle.std.specs.FinMap.{get}
 use Rattle.byte_fields.specs.Causes.{Rose}
 use Rattle.meta_journal.specs.Places.{snap_prefix, snap_key}
+use Rattle.meta_journal.specs.declared.entry_error.EntryError.{EntryError}
+use Rattle.meta_journal.specs.declared.entry_error.EntryError.TheVariants as decodes
 use Rattle.meta_store.specs.Room.{Kept}
 use Rattle.meta_store.specs.State as meta
+use Rattle.meta_store.specs.declared.restoring.RestoreError.{RestoreError}
+use Rattle.meta_store.specs.declared.restoring.RestoreError.TheVariants as restores
 use Rattle.object_store.specs.Store.{State, HasLanded, is_behind, listed}
 use Rattle.index_world.specs.Opened.{BeginsAt, HasNoSnap, IsForeignSnap, IsRestored, IsSpoiltSnap}
 use Rattle.index_world.specs.Snaps.{is_snap}
@@ -102,6 +106,21 @@ RestoresTo number bytes (Err (errors.Expired planned_at reached)) = ⊥
 RestoresTo number bytes (Err errors.NoIndex) = ⊥
 RestoresTo number bytes (Err errors.IndexExists) = ⊥
 RestoresTo number bytes (Err (errors.BadConfig bad)) = ⊥
+
+-- why there is none, to the world
+abbrev pub of_restore : (key : List ℕ) → RestoreError → WorldError
+of_restore key (restores.Memory e) = errors.Memory e
+of_restore key (restores.Uneven partition) = errors.Corrupt key
+of_restore key restores.BadText = errors.Corrupt key
+of_restore key restores.OutOfRange = errors.Corrupt key
+
+abbrev pub of_decode : (key : List ℕ) → EntryError → WorldError
+of_decode key (decodes.Memory e) = errors.Memory e
+of_decode key decodes.BadMagic = errors.Corrupt key
+of_decode key (decodes.BadVersion number) = errors.Corrupt key
+of_decode key (decodes.BadKind number) = errors.Corrupt key
+of_decode key (decodes.Field f) = errors.Corrupt key
+of_decode key (decodes.Trailing at) = errors.Corrupt key
 
 -- what stands under its key has this state, or none
 abbrev pub StandsWith : (number : ℕ) → State → (List ℕ → Type 0) → Type 0

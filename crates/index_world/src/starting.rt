@@ -1,11 +1,12 @@
 //! What opening begins with: the last snapshot under `snap/`, or none.
 
-ghost use Rattle.std.specs.Prelude.{◌≡◌, ◌≤◌, ◌<◌, ◌^◌, ◌↔◌, IfOk, IfErr, IsTrue, List, ℕ, Ok, ◌+◌};
-ghost use Rattle.meta_journal.specs.Snapshots.{CanSpellParts, SpellsParts};
+ghost use Rattle.std.specs.Prelude.{◌≡◌, ◌≤◌, ◌<◌, ◌^◌, ◌↔◌, IfOk, IfErr, IfSome, IsTrue, List, ℕ, Ok, Some};
+ghost use Rattle.meta_journal.specs.Places.{snap_key};
+ghost use Rattle.meta_journal.specs.Snapshots.{CanSpellParts};
 ghost use Rattle.meta_journal.specs.SnapshotReading.{parts_in};
 ghost use Rattle.object_store.specs.Store.{WhereTold};
 ghost use Rattle.index_world.specs.Configuration.{HasConfig};
-ghost use Rattle.index_world.specs.Starting.{AreSnapKeys, BeginsTo, IsBeginning, IsOfBegin, IsSnapPage, ListsSnaps, PagesSnaps, ReadsSnap, RestoresTo, next_of};
+ghost use Rattle.index_world.specs.Starting.{AreSnapKeys, BeginsTo, IsBeginning, IsOfBegin, IsSnapPage, ListsSnaps, PagesSnaps, ReadsSnap, RestoresTo, next_of, of_decode, of_restore};
 ghost use Rattle.index_world.specs.Taking.{IsFaultBetween};
 
 use crate::taking::{get_error, list_error};
@@ -42,18 +43,31 @@ fn is_above(last: Option<u64>, number: u64) -> bool
     }
 }
 
+// The number of a snapshot's key, where it is above the last one.
+fn number_above(key: &Key, last: Option<u64>) -> Option<u64>
+    ensures only { IfSome result (λ n. (key.now ≡ snap_key n) × (n < 2 ^ 64) × (next_of last ≤ n)) }
+    ensures all { (n : ℕ) → n < 2 ^ 64 → next_of last ≤ n → key.now ≡ snap_key n → result ≡ Some n }
+{
+    let number = snap_number(key)?;
+    if is_above(last, number) {
+        Some(number)
+    } else {
+        None
+    }
+}
+
 // The number of the last of some snapshots' keys behind another, or the first key that is none of them.
 fn judge(keys: &[Key], last: Option<u64>) -> Result<Option<u64>, Key>
     ensures { AreSnapKeys keys.now last result }
 {
-    let mut last = last;
+    let mut end = last;
     for key in keys {
-        match snap_number(key) {
-            Some(number) if is_above(last, number) => last = Some(number),
-            _ => return Err(*key),
+        match number_above(key, end) {
+            Some(number) => end = Some(number),
+            None => return Err(*key),
         }
     }
-    Ok(last)
+    Ok(end)
 }
 
 // The snapshots behind another: how far one page of a listing leads.
@@ -63,7 +77,8 @@ fn list_page<S: ObjectStore>(
     last: Option<u64>,
     before: u64,
 ) -> Result<SnapPage, WorldError>
-    requires { before ≤ S.fault_count store.old }
+    requires within { next_of last ≤ 2 ^ 64 }
+    requires before { before ≤ S.fault_count store.old }
     ensures pages { WhereTold (S.told store.old) (S.told store.new) (PagesSnaps last result) }
     ensures page { IfOk result (IsSnapPage last) }
     ensures faults { IfErr result (IsFaultBetween before (S.fault_count store.new)) }
@@ -106,6 +121,32 @@ fn last_number<S: ObjectStore>(
     }
 }
 
+// Why no state is made of parts, to the world.
+fn restore_error(error: RestoreError, key: Key) -> WorldError
+    ensures { result ≡ of_restore key error }
+{
+    match error {
+        RestoreError::Memory(refused) => WorldError::Memory(refused),
+        RestoreError::Uneven { .. } => WorldError::Corrupt { key },
+        RestoreError::BadText => WorldError::Corrupt { key },
+        RestoreError::OutOfRange => WorldError::Corrupt { key },
+    }
+}
+
+// Why bytes are no parts, to the world.
+fn decode_error(error: EntryError, key: Key) -> WorldError
+    ensures { result ≡ of_decode key error }
+{
+    match error {
+        EntryError::Memory(refused) => WorldError::Memory(refused),
+        EntryError::BadMagic => WorldError::Corrupt { key },
+        EntryError::BadVersion { .. } => WorldError::Corrupt { key },
+        EntryError::BadKind { .. } => WorldError::Corrupt { key },
+        EntryError::Field(_) => WorldError::Corrupt { key },
+        EntryError::Trailing { .. } => WorldError::Corrupt { key },
+    }
+}
+
 // The state that parts have under the key of so many entries.
 fn restored_parts(alloc: Global, number: u64, parts: StateParts) -> Result<Meta, WorldError>
     requires { CanSpellParts parts }
@@ -118,8 +159,7 @@ fn restored_parts(alloc: Global, number: u64, parts: StateParts) -> Result<Meta,
     }
     match Meta::restore(alloc, parts) {
         Ok(meta) => Ok(meta),
-        Err(RestoreError::Memory(refused)) => Err(WorldError::Memory(refused)),
-        Err(_) => Err(WorldError::Corrupt { key }),
+        Err(error) => Err(restore_error(error, key)),
     }
 }
 
@@ -129,10 +169,7 @@ fn restored(alloc: Global, number: u64, bytes: &[u8]) -> Result<Meta, WorldError
 {
     match decode_state(alloc, bytes) {
         Ok(parts) => restored_parts(alloc, number, parts),
-        Err(EntryError::Memory(refused)) => Err(WorldError::Memory(refused)),
-        Err(_) => Err(WorldError::Corrupt {
-            key: snap_key(number),
-        }),
+        Err(error) => Err(decode_error(error, snap_key(number))),
     }
 }
 

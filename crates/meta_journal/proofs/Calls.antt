@@ -28,7 +28,7 @@ told_same (Some s) P h = h s
 landed_to : (o m n : State) → HasLanded o m → n ≡ m → HasLanded o n
 landed_to o m n h e = subst (λ (s : State). HasLanded o s) (sym e) h
 
-finds_piece : (x : Option (List ℕ)) (len : ℕ) (piece : Piece) → ((bytes : List ℕ) → IsPieceOf bytes 0 len piece → piece.bytes ≡ bytes) → Finds x 0 len (Ok piece) → x ≡ Some piece.bytes
+pub finds_piece : (x : Option (List ℕ)) (len : ℕ) (piece : Piece) → ((bytes : List ℕ) → IsPieceOf bytes 0 len piece → piece.bytes ≡ bytes) → Finds x 0 len (Ok piece) → x ≡ Some piece.bytes
 finds_piece None len piece whole h = absurd h
 finds_piece (Some bytes) len piece whole h = ap (λ (l : List ℕ). Some l) (sym (whole bytes h))
 
@@ -41,7 +41,7 @@ all_of_it piece small bytes h =
 pub no_more : (piece : Piece) → piece.size ≤ 65536 → (bytes : List ℕ) → IsPieceOf bytes 0 65536 piece → piece.bytes ≡ bytes
 no_more piece few bytes h = h.bytes_are ∙ take_all 65536 bytes (let size = h.size_is in omega arith)
 
-finds_absent : (x : Option (List ℕ)) (len : ℕ) → Finds x 0 len (Err gets.Absent) → x ≡ None
+pub finds_absent : (x : Option (List ℕ)) (len : ℕ) → Finds x 0 len (Err gets.Absent) → x ≡ None
 finds_absent None len h = refl
 finds_absent (Some bytes) len h = h
 
