@@ -1,5 +1,5 @@
 -- A journal's configuration stays, and is the one that is read.
-use Rattle.std.proofs.Common.{◌≡◌, ℕ, List, [], ◌∷◌, ◌++◌, take, drop, refl, sym, ap, ◌∙◌, subst, arith}
+use Rattle.std.proofs.Common.{◌≡◌, ℕ, ◌<◌, List, [], ◌∷◌, ◌++◌, take, drop, refl, sym, ap, ◌∙◌, subst, arith}
 use Rattle.std.proofs.lemmas.List.{take-append-drop}
 use Rattle.std.proofs.lemmas.List.Sums.{fold-append}
 use Rattle.std.specs.List.{AllByRecursion}
@@ -28,7 +28,7 @@ use Rattle.delete_tasks.specs.Removes.{DeleteTask as KeptTask}
 use Rattle.object_store.specs.Store.{State as Kept}
 use Rattle.source_log.specs.Log.{Log}
 use Rattle.split_states.specs.declared.rows.Row.{Row}
-use Rattle.index_world.specs.Configuration.{index_of, configuration, StaysConfigured, no_fields, config_or}
+use Rattle.index_world.specs.Configuration.{index_of, configuration, StaysConfigured, no_fields, config_or, HasConfig}
 use Rattle.index_world.specs.Core.{Core, journal_of, with_unread, IsConfigured}
 use Rattle.index_world.specs.World.{IsWorld, Keeping, WorldStands}
 use Rattle.index_world.specs.Index.{IsAllowed, IsRowKept, AreRowsKept}
@@ -147,7 +147,7 @@ IsRead config = (text : List ℕ) × (config_answer text ≡ Ok config)
 
 given_read : (answer : Result IndexConfig ConfigError) (text : List ℕ) (c : Config) → config_answer text ≡ answer → configured text (settings_of answer) ≡ Some c → IsRead c.settings.index
 given_read (Ok index) text c e g =
-    let same : ◌≡◌ {A = Config} (record { text = text; settings = record { index = index; period = None } }) c = cc g in
+    let same : ◌≡◌ {A = Config} (record { text = text; settings = record { index = index; period = index.retention } }) c = cc g in
     subst IsRead (ap (λ (x : Config). x.settings.index) same) (text, e)
 given_read (Err error) text c e g = cc g
 
@@ -231,3 +231,35 @@ HasSchema o = ForSome o (λ (config : Config). ∥ IsSchema config.settings.inde
 
 pub kept_schema : (h : History) → HasSchema (config_of reads h)
 kept_schema h config e = let r = read_is h config e in ∣ accepted-schema r.0 config.settings.index r.1 ∣₁
+
+-- ---- what is kept of some entries
+
+text_schema : (text : List ℕ) → HasSchema (configured text (settings_of (config_answer text)))
+text_schema text config e = let r = given_read (config_answer text) text config refl e in ∣ accepted-schema r.0 config.settings.index r.1 ∣₁
+
+schema_after : (c : Option Config) (act : Act) → HasSchema c → HasSchema (config_after (reading_of reads c act) act c)
+schema_after c Fence h = h
+schema_after c (Create text) h = text_schema text
+schema_after c (Stage number delta facts) h = h
+schema_after c (Publish number) h = h
+schema_after c (Replace new old upto) h = h
+schema_after c (Raise number upto) h = h
+schema_after c (Task opstamp text fields times) h = h
+schema_after c (MarkStaged numbers) h = h
+schema_after c (Remove numbers) h = h
+schema_after c (Retire numbers) h = h
+
+-- it stays behind each entry that may come
+pub config_after_entry : (reading : Said) (s s' : State) (e : Entry) → s' ≡ after reading e s → reading ≡ reading_of reads s.config e.act → IsOk (answer_to reading s e) → HasConfig s → HasConfig s'
+config_after_entry reading s s' e is read ok h =
+    subst HasConfig (sym is) (record {
+      some = λ pos. answered_some reading s e ok;
+      schema = subst (λ (r : Said). HasSchema (config_after r e.act s.config)) (sym read) (schema_after s.config e.act h.schema);
+    })
+
+-- of no entry nothing is asked, and of a configuration that was read its fields are a schema
+pub config_first : HasConfig (state_of reads Start)
+config_first = record { some = λ pos. absurd (omega (arith, pos)); schema = λ config e. cc e }
+
+pub config_read : (s : State) (text : List ℕ) → IsSome s.config → s.config ≡ configured text (settings_of (config_answer text)) → HasConfig s
+config_read s text some is = record { some = λ pos. some; schema = subst HasSchema (sym is) (text_schema text) }

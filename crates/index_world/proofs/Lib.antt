@@ -13,6 +13,8 @@ pub mod Removed
 pub mod SnapKeeping
 pub mod SnapCalls
 pub mod SnapPages
+pub mod SnapReading
+pub mod SnapOpening
 pub mod Rows
 pub mod Deleting
 pub mod Entering

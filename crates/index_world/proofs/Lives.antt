@@ -10,8 +10,9 @@ use Rattle.meta_journal.specs.declared.place.JournalPlace.{JournalPlace}
 use Rattle.meta_journal.specs.declared.place.JournalPlace.TheVariants.{Sure, Unsure, Given}
 use Rattle.meta_store.proofs.Answered.{answered}
 use Rattle.meta_store.specs.Answers.{answer_to, HasNumbers}
-use Rattle.meta_store.specs.History.{history}
-use Rattle.meta_store.specs.State.{Legal, MayCome, state_of, after}
+use Rattle.meta_store.specs.History.{History, history}
+use Rattle.meta_store.specs.Readings.{config_of}
+use Rattle.meta_store.specs.State.{Legal, MayCome, MayFollow, state_of, after}
 use Rattle.meta_store.specs.State as meta
 use Rattle.meta_store.specs.declared.config.Config.{Config}
 use Rattle.meta_store.specs.Said.{Said}
@@ -157,3 +158,8 @@ answers_allowed s entries f e a =
     subst (λ (x : meta.State). IsOk (answer_to (reading_in x f.act) x f)) (sym e)
     ((answered (reading_in (state_of reads (history entries)) f.act) (state_of reads (history entries)) f
     (numbers_of (reading_in (state_of reads (history entries)) f.act) (state_of reads (history entries)).config (state_of reads (history entries)) f.moment f.act a.1)).1 a)
+
+-- the same of a history
+pub answers_history : (h : History) (f : Entry) → MayFollow (reading_of reads (config_of reads h) f.act) (state_of reads h) f → IsOk (answer_to (reading_in (state_of reads h) f.act) (state_of reads h) f)
+answers_history h f a =
+    (answered (reading_in (state_of reads h) f.act) (state_of reads h) f (numbers_of (reading_in (state_of reads h) f.act) (state_of reads h).config (state_of reads h) f.moment f.act a.1)).1 a

@@ -276,6 +276,7 @@ module _ (last : Option ℕ) (page : SnapPage) (o m s : State) (so_far : SnapsSo
       by None e = record { landed = landed_whole; none = λ key under. none_left e is key under (get s.objects key) refl }
       by (Some p) e = record {
         landed = landed_whole;
+        small = (end_stands p e).0;
         stands = (end_stands p e).1;
         greatest = λ key under some. greatest_left p e is key under some (is_behind (Some (snap_key p)) key) refl;
         last = λ key under some.

@@ -108,6 +108,7 @@ pub record IsLastSnap (number : ℕ) (bytes : List ℕ) (old new : State) : Type
   pub mid : State
   pub before : HasLanded old mid
   pub behind : HasLanded mid new
+  pub small : number < 2 ^ 64
   pub stands : get mid.objects (snap_key number) ≡ Some bytes
   pub greatest : (key : List ℕ) → is_snap key ≡ true → IsSome (get mid.objects key) → is_behind (Some (snap_key number)) key ≡ false
   pub last : (key : List ℕ) → is_snap key ≡ true → IsSome (get old.objects key) → (n : ℕ) × (n ≤ number) × (key ≡ snap_key n)

@@ -81,6 +81,7 @@ PagesSnaps last (Err error) old new = MeetsNone error old new
 -- with this number or a lower one
 pub record IsLastKey (number : ℕ) (old new : State) : Type 0 where
   pub landed : HasLanded old new
+  pub small : number < 2 ^ 64
   pub stands : IsSome (get new.objects (snap_key number))
   pub greatest : (key : List ℕ) → is_snap key ≡ true → IsSome (get new.objects key) → is_behind (Some (snap_key number)) key ≡ false
   pub last : (key : List ℕ) → is_snap key ≡ true → IsSome (get old.objects key) → (n : ℕ) × (n ≤ number) × (key ≡ snap_key n)
