@@ -16,17 +16,27 @@ use Rattle.meta_journal.specs.Snapshots.{CanSpellParts}
 use Rattle.meta_journal.specs.declared.entry_error.EntryError.{EntryError}
 use Rattle.meta_journal.specs.declared.entry_error.EntryError.TheVariants as decodes
 use Rattle.meta_journal.specs.declared.state_parts.StateParts.{StateParts}
-use Rattle.meta_store.specs.Restoring.{CanRestore, Restores, fits, has_texts}
+use Rattle.meta_store.proofs.Remade.{in_ranges}
+use Rattle.meta_store.specs.History.History.{Start}
+use Rattle.meta_store.specs.Readings.{configured}
+use Rattle.meta_store.specs.Restoring.{CanRestore, Restores, fits, texts_read}
+use Rattle.meta_store.specs.State.{state_of}
+use Rattle.meta_store.specs.Parts.{state_from}
+use Rattle.meta_store.specs.declared.config.Config.{Config}
+use Rattle.meta_store.specs.declared.config.Settings.{Settings}
+use Rattle.index_config.specs.declared.config_error.ConfigError.{ConfigError}
 use Rattle.meta_store.specs.Room.{Kept}
 use Rattle.meta_store.specs.State as meta
 use Rattle.meta_store.specs.Texts.{reads}
 use Rattle.meta_store.specs.declared.restoring.RestoreError.{RestoreError}
 use Rattle.meta_store.specs.declared.restoring.RestoreError.TheVariants as restores
 use Rattle.index_world.specs.Opened.{BeginsAt, IsRestored, IsLastSnap, IsSpoiltSnap}
-use Rattle.index_world.specs.Starting.{IsLastKey, ListsSnaps, MeetsNone, ReadsSnap, RestoresTo, BeginsTo, BeginsNot, of_decode, of_restore}
+use Rattle.index_world.specs.Configuration.{HasConfig}
+use Rattle.index_world.specs.Starting.{IsBeginning, IsLastKey, ListsSnaps, MeetsNone, ReadsSnap, RestoresTo, BeginsTo, BeginsNot, of_decode, of_restore}
 use Rattle.index_world.specs.declared.starting.Beginning.{Beginning}
 use Rattle.index_world.specs.declared.world_error.WorldError.{WorldError}
 use Rattle.index_world.specs.declared.world_error.WorldError.TheVariants as errors
+use Rattle.index_world.proofs.Configured.{config_first, config_read}
 use Rattle.index_world.proofs.StoreKeys.{true_is_false}
 
 -- ---- its bytes
@@ -39,8 +49,8 @@ parts_once bytes a b e f = let both : ◌≡◌ {A = Result StateParts EntryErro
 pub other_number : (number : ℕ) (bytes : List ℕ) (parts : StateParts) → parts_in bytes ≡ Ok parts → (parts.revision ≡ number → ⊥) → (start : meta.State) → IsRestored number bytes start → ⊥
 other_number number bytes parts is apart start r = apart (ap (λ (p : StateParts). p.revision) (parts_once bytes parts r.parts is r.reads_as) ∙ r.revision)
 
-pub restores_to : (number : ℕ) (bytes : List ℕ) (parts : StateParts) (kept : Kept) → parts_in bytes ≡ Ok parts → parts.revision ≡ number → Restores reads parts (Ok kept) → RestoresTo number bytes (Ok kept)
-restores_to number bytes parts kept is revision r = record { parts = parts; reads_as = is; can = r.0; revision = revision; state = r.1 }
+pub restores_to : (number : ℕ) (bytes : List ℕ) (parts : StateParts) (kept : Kept) → CanSpellParts parts → parts_in bytes ≡ Ok parts → parts.revision ≡ number → Restores reads parts (Ok kept) → RestoresTo number bytes (Ok kept)
+restores_to number bytes parts kept spells is revision r = record { parts = parts; reads_as = is; spells = spells; can = r.0; revision = revision; state = r.1 }
 
 -- what can't be restored has no state
 pub restores_none : (number : ℕ) (key bytes : List ℕ) (parts : StateParts) (error : RestoreError) → key ≡ snap_key number → parts_in bytes ≡ Ok parts → Restores reads parts (Err error) → RestoresTo number bytes (Err (of_restore key error))
@@ -69,6 +79,30 @@ decodes_none number key bytes error at r = by error r
     by (decodes.BadKind n) r = (at, never (decodes.BadKind n) r)
     by (decodes.Field f) r = (at, never (decodes.Field f) r)
     by (decodes.Trailing n) r = (at, never (decodes.Trailing n) r)
+
+-- ---- what it begins with, over every store
+
+some_config : (r : Result Settings ConfigError) (text : List ℕ) (parts : StateParts) → texts_read reads r parts.tasks ≡ true → IsSome (configured text r)
+some_config (Ok settings) text parts h = refl
+some_config (Err error) text parts h = absurd (true_is_false (sym h))
+
+pub beginning_restored : (number : ℕ) (bytes : List ℕ) (kept : Kept) → IsRestored number bytes kept.state → IsBeginning HasConfig (record { snapped = number; meta = kept })
+beginning_restored number bytes kept r =
+    let of : {A : Type 0} (f : meta.State → A) → f kept.state ≡ f (state_from reads r.parts) = λ f. ap f r.state in
+    record {
+      number = sym (of (λ (s : meta.State). s.revision) ∙ r.revision);
+      within = let e = of (λ (s : meta.State). s.revision) in let few = (in_ranges r.parts r.can.in_range).revision in omega (arith, e, few);
+      moment = let e = of (λ (s : meta.State). s.moment) in let low = r.spells.greatest in omega (arith, e, low);
+      config = config_read kept.state r.parts.config (subst (λ (c : Option Config). IsSome c) (sym (of (λ (s : meta.State). s.config))) (some_config (reads.config r.parts.config) r.parts.config r.parts r.can.texts)) (of (λ (s : meta.State). s.config));
+    }
+
+pub beginning_first : (kept : Kept) → kept.state ≡ state_of reads Start → IsBeginning HasConfig (record { snapped = 0; meta = kept })
+beginning_first kept is = record {
+  number = sym (ap (λ (s : meta.State). s.revision) is);
+  within = let e = ap (λ (s : meta.State). s.revision) is in omega (arith, e);
+  moment = let e = ap (λ (s : meta.State). s.moment) is in omega (arith, e);
+  config = subst HasConfig (sym is) config_first;
+}
 
 -- ---- its object
 
@@ -128,7 +162,7 @@ not_zero : (bytes : List ℕ) (start : meta.State) → IsRestored 0 bytes start 
 not_zero bytes start r = some_entries r.parts r.revision r.can.in_range
   where
     some_entries : (parts : StateParts) → parts.revision ≡ 0 → fits parts ≡ true → ⊥
-    some_entries parts none fit = ?
+    some_entries parts none fit = let some = (in_ranges parts fit).some in omega (arith, some, none)
 
 pub begun_with : (number : ℕ) (o m s : State) (kept : Kept) → IsLastKey number o m → ReadsSnap number (Ok kept) m s → BeginsAt number kept.state o s
 begun_with zero o m s kept k r = absurd (not_zero r.1.0 kept.state r.1.2)

@@ -6,6 +6,7 @@ use Rattle.meta_journal.specs.Loading.{IsForeign, IsListed}
 use Rattle.meta_journal.specs.Places.{meta_key, snap_key, numbered}
 use Rattle.meta_journal.specs.Reading.{entry_of}
 use Rattle.meta_journal.specs.SnapshotReading.{parts_in}
+use Rattle.meta_journal.specs.Snapshots.{CanSpellParts}
 use Rattle.meta_journal.specs.declared.entry.Entry.{Entry}
 use Rattle.meta_journal.specs.declared.entry_error.EntryError.{EntryError}
 use Rattle.meta_journal.specs.declared.state_parts.StateParts.{StateParts}
@@ -117,6 +118,7 @@ pub record IsLastSnap (number : ℕ) (bytes : List ℕ) (old new : State) : Type
 pub record IsRestored (number : ℕ) (bytes : List ℕ) (start : meta.State) : Type 0 where
   pub parts : StateParts
   pub reads_as : parts_in bytes ≡ Ok parts
+  pub spells : CanSpellParts parts
   pub can : CanRestore reads parts
   pub revision : parts.revision ≡ number
   pub state : start ≡ state_from reads parts
