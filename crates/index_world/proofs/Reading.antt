@@ -1,37 +1,49 @@
 -- What opening the index of a store did, in the words of the core.
-use Rattle.std.proofs.Common.{◌≡◌, ℕ, ◌<◌, ◌≤◌, ◌^◌, List, [], refl, sym, ap, ◌∙◌, subst, Bool, false, length, arith, append-nil}
-use Rattle.std.proofs.lemmas.List.{length-append}
+use Rattle.std.proofs.Common.{◌≡◌, ◌⊎◌, ℕ, ◌+◌, ◌<◌, ◌≤◌, ◌^◌, List, [], ◌∷◌, ◌++◌, refl, sym, ap, ◌∙◌, subst, inl, inr, Bool, false, length, take, None, arith, append-nil}
+use Rattle.std.proofs.lemmas.List.{length-append, length-take-le, take-append-le}
+use Rattle.std.proofs.lemmas.List.Sums.{fold-append}
 use Rattle.std.specs.Prelude.{Option, Some, Result, Ok, Err, ⊤}
 use Rattle.byte_fields.specs.Causes.{Rose}
-use Rattle.meta_journal.specs.Journal.{Numbered, FaultIs}
+use Rattle.meta_journal.specs.Journal.{Numbered}
 use Rattle.meta_journal.specs.Loading.{Loads, LoadsEntries, IsLoaded, loaded}
+use Rattle.meta_journal.specs.Places.{StandFrom}
 use Rattle.meta_journal.specs.declared.entry.Entry.{Entry}
 use Rattle.meta_journal.specs.declared.journal_error.JournalError.{JournalError}
 use Rattle.meta_journal.specs.declared.journal_error.JournalError.TheVariants as journal
-use Rattle.meta_store.specs.History.{history, moment_of}
+use Rattle.meta_store.specs.History.{history}
+use Rattle.meta_store.specs.History.History.{Start, ◌▸◌}
 use Rattle.meta_store.specs.State.{Legal, state_of}
-use Rattle.object_store.specs.Store.{State, WhereTold}
+use Rattle.meta_store.specs.State as meta
+use Rattle.object_store.proofs.Landings.{HasLanded-refl, HasLanded-trans}
+use Rattle.object_store.specs.Store.{State, HasLanded, WhereTold}
 use Rattle.source_log.specs.Log.{Log}
 use Rattle.index_world.specs.declared.life.Life.{Life}
 use Rattle.index_world.specs.declared.world_error.WorldError.{WorldError}
 use Rattle.index_world.specs.declared.world_error.WorldError.TheVariants as errors
+use Rattle.index_world.specs.Answering.{Takes}
 use Rattle.index_world.specs.Calls.{Unread, not_read, no_index, no_memory, faulted, store_fault, store_failed, gives}
 use Rattle.index_world.specs.Config.{reads}
-use Rattle.index_world.specs.Core.{Core, last_count, Marking, taken_at, is_in, Upkeep}
+use Rattle.index_world.specs.Core.{Core, last_count, journal_of, Marking, taken_at, is_in, Upkeep}
+use Rattle.index_world.specs.Held.{NoneAtEnd}
 use Rattle.index_world.specs.Life.{NotesNothing, Opening, StandsBy}
 use Rattle.index_world.specs.Loading.{IsUnread, LoadsWorld, LoadsNone, LoadsAnew}
+use Rattle.index_world.specs.Opened.{BeginsAt, state_behind}
+use Rattle.index_world.specs.Starting.{BeginsNot}
 use Rattle.index_world.specs.Steps.{Counted}
-use Rattle.index_world.specs.Taking.{IsWant, of_journal}
+use Rattle.index_world.specs.Taking.{IsFaultBetween, IsWant, of_journal}
 use Rattle.index_world.specs.Unsure.{is_unsure}
 use Rattle.index_world.specs.World.{IsWorld, WorldStands}
 use Rattle.std.specs.Result.{IsErrAnd}
-use Rattle.index_world.proofs.Fronts.{AreTimely, journal_timely}
+use Rattle.index_world.proofs.Fronts.{AreTimely, timely_from, takes_legal, no_entry_left}
 use Rattle.index_world.proofs.FileCalls.{LoadLaw, UnreadLaw, load_answer, load_law, load_failed_law, load_short_law}
 use Rattle.index_world.proofs.Gates.{kept_by}
 use Rattle.index_world.proofs.InCore.{keeps_all, keeps_reread}
-use Rattle.index_world.proofs.JournalLaws.{legal_history}
+use Rattle.index_world.proofs.Indexing.{index-HasLanded}
 use Rattle.index_world.proofs.Journals.{once}
 use Rattle.index_world.proofs.Lives.{Told, told_of}
+use Rattle.index_world.proofs.Numbers.{revision_is}
+use Rattle.index_world.proofs.SnapOpening.{BegunSound, begun_sound, snap_never_spoilt, snap_never_foreign, rest_read, state_whole}
+use Rattle.index_world.proofs.StoreCalls.{Landed, landed_to as landed_index_of}
 use Rattle.index_world.proofs.Transacting.{ends_same, timely_same}
 use Rattle.index_world.proofs.WholeFiles.{Reborn, whole_loaded, load_no_corrupt, load_no_foreign}
 
@@ -47,6 +59,18 @@ want_unread (errors.Expired planned_at reached) h = absurd h
 want_unread errors.NoIndex h = absurd h
 want_unread errors.IndexExists h = absurd h
 want_unread (errors.BadConfig bad) h = absurd h
+
+grown_of : (late : List (List ℕ × List ℕ)) (es more : List Entry) → (more ≡ es) ⊎ ((e : Entry) × (more ≡ es ++ e ∷ []) × NoneAtEnd late more) → (more ≡ es) ⊎ ((e : Entry) × (more ≡ es ++ e ∷ []))
+grown_of late es more (inl same) = inl same
+grown_of late es more (inr one) = inr (one.0, one.1)
+
+-- a journal that went on begins with the same entries
+first_of : (n : ℕ) (es more : List Entry) → n ≤ length es → (more ≡ es) ⊎ ((e : Entry) × (more ≡ es ++ e ∷ [])) → (n ≤ length more) × (take n es ≡ take n more)
+first_of n es more le (inl same) = (subst (λ (xs : List Entry). n ≤ length xs) (sym same) le, ap (take n) (sym same))
+first_of n es more le (inr one) =
+    let longer = ap length one.1 in
+    let count = length-append es (one.0 ∷ []) in
+    (omega (arith, le, longer, count), sym (take-append-le n es (one.0 ∷ []) le) ∙ ap (take n) (sym one.1))
 
 module _ (old : State) (core : Core) (log : Log) (n now : ℕ) (told told' : Option State) (e : told ≡ Some old) (w : IsWorld old core log) (at : n ≡ core.store_faults) (later : n ≤ now) (within : now ≤ last_count) where
   counted : Counted core now
@@ -68,93 +92,159 @@ module _ (old : State) (core : Core) (log : Log) (n now : ℕ) (told told' : Opt
         };
       }
 
-  pub opening_failed : (number before : ℕ) (x : JournalError) (error : WorldError) → error ≡ of_journal number before x → before ≡ n → FaultIs n now x → WhereTold told told' (λ a s. LoadsEntries (Err x) a s) → Opening core log (Err error) told' now
-  opening_failed number before x error is start fault l =
-      subst (λ (y : WorldError). Opening core log (Err y) told' now) (sym is) (by x fault (told_of told told' old (λ a s. LoadsEntries (Err x) a s) e l))
-    where
-      by : (x : JournalError) → FaultIs n now x → Told told' (λ s. LoadsEntries (Err x) old s) → Opening core log (Err (of_journal number before x)) told' now
-      by (journal.Memory a) fault t = none_by t.new (λ after. not_read no_memory) (errors.Memory a) t.is (load_short_law once old t.new t.new core log now w counted t.says ([], refl)) refl
-      by (journal.StoreFault low high) fault t =
-          let u = load_failed_law once old t.new core log now w counted (subst (λ (m : ℕ). Rose m now) at fault.2) t.says in
-          none_by t.new (λ after. not_read (store_failed core.store_faults after)) (errors.StoreFault before high) t.is u
-          (ap (λ (m : ℕ). not_read (faulted (store_fault core.store_faults m))) (u.faults ∙ sym fault.1) ∙ ap (λ (m : ℕ). not_read (faulted (store_fault m high))) (sym (start ∙ at)))
-      by (journal.Foreign key) fault t = absurd (load_no_foreign old t.new core log now key w counted t.says.0 t.says.1)
-      by (journal.Corrupt key) fault t = absurd (load_no_corrupt old t.says.mid core log now (length t.says.first.0) key w counted t.says.counted.landed t.says.first.2)
-      by (journal.Missing key) fault t = absurd t.says
-      by (journal.Adopted f) fault t = absurd t.says
-      by journal.Full fault t = absurd t.says
+  pub opening_short : (mid new : State) (error : WorldError) → told' ≡ Some new → HasLanded old mid → HasLanded mid new → IsWant error → Opening core log (Err error) told' now
+  opening_short mid new error t a b want =
+      none_by new (λ after. not_read no_memory) error t (load_short_law once old mid new core log now w counted a b) (want_unread error want)
 
-  module _ (read : List Entry) (l : WhereTold told told' (λ a s. LoadsEntries (Ok read) a s)) where
-    t : Told told' (λ s. IsLoaded read old s)
-    t = told_of told told' old (λ a s. LoadsEntries (Ok read) a s) e l
+  faulted_by : (new : State) (low high : ℕ) → told' ≡ Some new → HasLanded old new → (low ≡ n) × (high ≡ now) × Rose n now → Opening core log (Err (errors.StoreFault low high)) told' now
+  faulted_by new low high t l fault =
+      let u = load_failed_law once old new core log now w counted (subst (λ (m : ℕ). Rose m now) at fault.2) l in
+      none_by new (λ after. not_read (store_failed core.store_faults after)) (errors.StoreFault low high) t u
+      (ap (λ (m : ℕ). not_read (faulted (store_fault core.store_faults m))) (u.faults ∙ sym fault.1) ∙ ap (λ (m : ℕ). not_read (faulted (store_fault m high))) (sym (fault.0 ∙ at)))
 
-    law : LoadLaw old t.new core log read (load_answer read) now
-    law = load_law once old t.says.mid t.new core log read now w counted t.says.before t.says.journal t.says.behind
+  -- the index of what landed
+  landed_index : (mid : State) → HasLanded old mid → Landed old mid (journal_of core) log
+  landed_index mid l = landed_index_of old mid (journal_of core) log (index-HasLanded old mid (journal_of core) log w.index l)
 
-    -- what was read is legal, and its moments can be spelled
-    pub read_legal : Legal reads (history read)
-    read_legal = subst (λ (es : List Entry). Legal reads (history es)) law.history (legal_history t.new law.after log law.onward.world)
+  -- opening didn't begin
+  pub opening_not_begun : (new : State) (error : WorldError) → told' ≡ Some new → IsFaultBetween n now error → BeginsNot error old new → Opening core log (Err error) told' now
+  opening_not_begun new (errors.Memory a) t fault b = opening_short new new (errors.Memory a) t b (HasLanded-refl new) tt
+  opening_not_begun new (errors.StoreFault low high) t fault b = faulted_by new low high t b fault
+  opening_not_begun new (errors.Corrupt key) t fault b =
+      let l = landed_index b.last.mid b.last.before in
+      absurd (snap_never_spoilt b.number b.bytes old new l.more log b.last l.index b.none)
+  opening_not_begun new (errors.Foreign key) t fault b = let l = landed_index new b.landed in absurd (snap_never_foreign key old new l.more log b l.index)
+  opening_not_begun new (errors.Missing key) t fault b = absurd b
+  opening_not_begun new (errors.Refused refusal) t fault b = absurd b
+  opening_not_begun new errors.Full t fault b = absurd b
+  opening_not_begun new (errors.Expired p m) t fault b = absurd b
+  opening_not_begun new errors.NoIndex t fault b = absurd b
+  opening_not_begun new errors.IndexExists t fault b = absurd b
+  opening_not_begun new (errors.BadConfig bad) t fault b = absurd b
 
-    pub read_timely : AreTimely read
-    read_timely = journal_timely t.says.mid read t.says.journal
+  module _ (snapped : ℕ) (start : meta.State) (mid new : State) (b : BeginsAt snapped start old mid) (t : told' ≡ Some new) where
+    from : BegunSound snapped start old mid
+    from = begun_sound snapped start old mid b
 
-    pub opening_empty : read ≡ [] → Opening core log (Err errors.NoIndex) told' now
-    opening_empty none =
-        record {
-          new = t.new;
-          tells = t.is;
-          did = record {
-            unread = no_index;
-            after = law.after;
-            loads = record { fate = law.fate; did = law.did ∙ ap (λ (es : List Entry). gives (load_answer es) law.after) none; grown = (law.more, law.grown); faults = let a = counted.later in let b = law.faults in omega (arith, a, b); keeps = keeps_reread old t.new core law.after log w.stands_for law.onward };
-            says = refl;
-            world = law.onward.world;
-            faults = sym law.faults;
-            same = λ some. absurd (let a = ap length law.history in let b = ap length none in let c = ap length law.grown in let d = length-append core.history law.more in omega (arith, some, a, b, c, d));
-          };
-        }
+    to_mid : HasLanded old mid
+    to_mid = HasLanded-trans old from.listed mid from.before from.behind
 
-    pub opening_short : (error : WorldError) → IsWant error → Opening core log (Err error) told' now
-    opening_short error want =
-        none_by t.new (λ after. not_read no_memory) error t.is (load_short_law once old t.says.mid t.new core log now w counted t.says.before t.says.behind) (want_unread error want)
+    -- what was listed when the snapshot was
+    first_index : Landed old from.listed (journal_of core) log
+    first_index = landed_index from.listed from.before
 
-    pub opening_ok : (life : Life) → core.clock < 2 ^ 62 → 0 < length read → life.journal ≡ loaded (length read) → life.meta.state ≡ state_of reads (history read) → life.moment ≡ moment_of (history read) → NotesNothing life → Opening core log (Ok life) told' now
-    opening_ok life clock some j m time nothing =
-        record {
-          new = t.new;
-          tells = t.is;
-          did = record {
-            after = law.after;
-            loads = record { fate = law.fate; did = r.did; grown = (law.more, law.grown); faults = let a = counted.later in let b = law.faults in omega (arith, a, b); keeps = r.keeps };
-            stands = record {
-              world = law.onward.world;
-              timely = r.stands.timely;
-              faults = sym law.faults;
-              within = within;
-              knows = record {
-                next = ap (λ (x : Numbered). x.next) j ∙ ap length (sym law.history);
-                unsure = ap (λ (x : Numbered). is_unsure x.place) j ∙ sym law.unsure;
-                moment = time ∙ sym law.moment;
-                meta = m ∙ ap (λ (es : List Entry). state_of reads (history es)) (sym law.history);
-                marks = λ number. ap (λ (ms : List Marking). taken_at ms number) nothing.0 ∙ ap (λ (x : Upkeep). taken_at x.marks number) (sym law.upkeep);
-                doomed = λ number. ap (λ (ns : List ℕ). is_in ns number) nothing.1 ∙ ap (λ (x : Upkeep). is_in x.doomed number) (sym law.upkeep);
-              };
-              opened = r.stands.opened;
-            };
-            clock = law.clock;
-          };
-        }
+    first_state : (snapped ≤ length first_index.more) × (start ≡ state_of reads (history (take snapped first_index.more)))
+    first_state = from.state first_index.more log first_index.index
+
+    pub opening_failed : (number before : ℕ) (x : JournalError) (error : WorldError) → error ≡ of_journal number before x → IsFaultBetween n now error → LoadsEntries start.revision (Err x) mid new → Opening core log (Err error) told' now
+    opening_failed number before x error is fault l = subst (λ (y : WorldError). Opening core log (Err y) told' now) (sym is) (by x (subst (IsFaultBetween n now) is fault) l)
       where
-        r : Reborn t.new core log read now
-        r = whole_loaded old t.says.mid t.new core log read now w clock some law t.says.journal
+        by : (x : JournalError) → IsFaultBetween n now (of_journal number before x) → LoadsEntries start.revision (Err x) mid new → Opening core log (Err (of_journal number before x)) told' now
+        by (journal.Memory a) fault l = opening_short mid new (errors.Memory a) t to_mid l tt
+        by (journal.StoreFault low high) fault l = faulted_by new before high t (HasLanded-trans old mid new to_mid l) fault
+        by (journal.Foreign key) fault l = absurd (load_no_foreign old new core log now start.revision key w counted (HasLanded-trans old mid new to_mid l.0) l.1)
+        by (journal.Corrupt key) fault l = absurd (load_no_corrupt old l.mid core log now (start.revision + length l.first.0) key w counted (HasLanded-trans old mid l.mid to_mid l.counted.landed) l.first.2)
+        by (journal.Missing key) fault l = absurd l
+        by (journal.Adopted f) fault l = absurd l
+        by journal.Full fault l = absurd l
+
+    module _ (read : List Entry) (l : IsLoaded start.revision read mid new) where
+      whole_index : Landed from.listed l.mid first_index.more log
+      whole_index = landed_index_of from.listed l.mid first_index.more log (index-HasLanded from.listed l.mid first_index.more log first_index.index (HasLanded-trans from.listed mid l.mid from.behind l.before))
+
+      whole : List Entry
+      whole = whole_index.more
+
+      -- the snapshot's entries are the first of what was read
+      first : (snapped ≤ length whole) × (take snapped first_index.more ≡ take snapped whole)
+      first = first_of snapped first_index.more whole first_state.0 (grown_of l.mid.late first_index.more whole whole_index.grown)
+
+      start_is : start ≡ state_of reads (history (take snapped whole))
+      start_is = first_state.1 ∙ ap (λ (es : List Entry). state_of reads (history es)) first.1
+
+      revision : start.revision ≡ snapped
+      revision = ap (λ (s : meta.State). s.revision) start_is ∙ revision_is (take snapped whole) ∙ length-take-le snapped whole first.0
+
+      whole_is : whole ≡ take snapped whole ++ read
+      whole_is = rest_read l.mid whole read snapped first.0 whole_index.index.stands.journal (subst (λ (k : ℕ). StandFrom l.mid k read None) revision l.journal)
+
+      state : state_behind start read ≡ state_of reads (history whole)
+      state = ap (λ (s : meta.State). state_behind s read) start_is ∙ state_whole whole read (take snapped whole) whole_is
+
+      count : length whole ≡ start.revision + length read
+      count = let a = ap length whole_is in let c = length-append (take snapped whole) read in let d = length-take-le snapped whole first.0 in omega (arith, a, c, d, revision)
+
+      law : LoadLaw old new core log whole snapped (load_answer whole) now
+      law = load_law once old from.listed l.mid new core log whole snapped now w counted from.before (λ begin wb. from.snap begin log wb) (HasLanded-trans from.listed mid l.mid from.behind l.before) whole_index.index.stands.journal l.behind
+
+      -- what was read may be taken in, and its moments can be spelled
+      pub read_takes : Takes start read (state_behind start read)
+      read_takes =
+          subst (λ (s : meta.State). Takes s read (state_behind s read)) (sym start_is)
+          (takes_legal (history (take snapped whole)) read (subst (Legal reads) (ap history whole_is ∙ fold-append ◌▸◌ Start (take snapped whole) read) whole_index.index.stands.legal))
+
+      pub read_timely : AreTimely read
+      read_timely = timely_from l.mid start.revision read None l.journal
+
+      pub opening_empty : start.revision ≡ 0 → read ≡ [] → Opening core log (Err errors.NoIndex) told' now
+      opening_empty zero none =
+          let nothing : whole ≡ [] = no_entry_left whole (let c = count in let e = ap length none in omega (arith, c, e, zero)) in
+          record {
+            new = new;
+            tells = t;
+            did = record {
+              unread = no_index;
+              after = law.after;
+              loads = record { fate = law.fate; did = law.did ∙ ap (λ (es : List Entry). gives (load_answer es) law.after) nothing; grown = (law.more, law.grown); faults = let a = counted.later in let b = law.faults in omega (arith, a, b); keeps = keeps_reread old new core law.after log w.stands_for law.onward };
+              says = refl;
+              world = law.onward.world;
+              faults = sym law.faults;
+              same = λ some. absurd (let a = ap length law.history in let b = ap length nothing in let c = ap length law.grown in let d = length-append core.history law.more in omega (arith, some, a, b, c, d));
+            };
+          }
+
+      pub opening_wants : (error : WorldError) → IsWant error → Opening core log (Err error) told' now
+      opening_wants error want = opening_short l.mid new error t (HasLanded-trans old mid l.mid to_mid l.before) l.behind want
+
+      pub opening_ok : (life : Life) → core.clock < 2 ^ 62 → 0 < start.revision + length read → life.journal ≡ loaded (start.revision + length read) → life.meta.state ≡ state_behind start read → life.moment ≡ life.meta.state.moment → NotesNothing life → life.snapped ≡ snapped →
+          Opening core log (Ok life) told' now
+      opening_ok life clock some j m time nothing last =
+          record {
+            new = new;
+            tells = t;
+            did = record {
+              after = law.after;
+              loads = record { fate = law.fate; did = r.did; grown = (law.more, law.grown); faults = let a = counted.later in let b = law.faults in omega (arith, a, b); keeps = r.keeps };
+              stands = record {
+                world = law.onward.world;
+                timely = r.stands.timely;
+                faults = sym law.faults;
+                within = within;
+                knows = record {
+                  next = ap (λ (x : Numbered). x.next) j ∙ sym count ∙ ap length (sym law.history);
+                  unsure = ap (λ (x : Numbered). is_unsure x.place) j ∙ sym law.unsure;
+                  moment = time ∙ ap (λ (s : meta.State). s.moment) (m ∙ state) ∙ sym law.moment;
+                  meta = m ∙ state ∙ ap (λ (es : List Entry). state_of reads (history es)) (sym law.history);
+                  marks = λ number. ap (λ (ms : List Marking). taken_at ms number) nothing.0 ∙ ap (λ (x : Upkeep). taken_at x.marks number) (sym law.upkeep);
+                  doomed = λ number. ap (λ (ns : List ℕ). is_in ns number) nothing.1 ∙ ap (λ (x : Upkeep). is_in x.doomed number) (sym law.upkeep);
+                  snapped = last ∙ ap (λ (x : Upkeep). x.snapped) (sym law.upkeep);
+                };
+                opened = r.stands.opened;
+              };
+              clock = law.clock;
+            };
+          }
+        where
+          r : Reborn new core log whole now
+          r = whole_loaded old l.mid new core log whole snapped now w clock (let c = count in omega (arith, c, some)) law whole_index.index.stands.journal
 
 -- ---- at a result
 
-pub loads_ok_at : (told told' : Option State) (r : Result (Numbered × List Entry) JournalError) (j : Numbered) (es : List Entry) → r ≡ Ok (j, es) → WhereTold told told' (λ a s. Loads r a s) → WhereTold told told' (λ a s. LoadsEntries (Ok es) a s)
-loads_ok_at told told' r j es e l = subst (λ (x : Result (Numbered × List Entry) JournalError). WhereTold told told' (λ a s. Loads x a s)) e l
+pub loads_ok_at : (from : ℕ) (told told' : Option State) (r : Result (Numbered × List Entry) JournalError) (j : Numbered) (es : List Entry) → r ≡ Ok (j, es) → WhereTold told told' (λ a s. Loads from r a s) → WhereTold told told' (λ a s. LoadsEntries from (Ok es) a s)
+loads_ok_at from told told' r j es e l = subst (λ (x : Result (Numbered × List Entry) JournalError). WhereTold told told' (λ a s. Loads from x a s)) e l
 
-pub loads_err_at : (told told' : Option State) (r : Result (Numbered × List Entry) JournalError) (x : JournalError) → r ≡ Err x → WhereTold told told' (λ a s. Loads r a s) → WhereTold told told' (λ a s. LoadsEntries (Err x) a s)
-loads_err_at told told' r x e l = subst (λ (y : Result (Numbered × List Entry) JournalError). WhereTold told told' (λ a s. Loads y a s)) e l
+pub loads_err_at : (from : ℕ) (told told' : Option State) (r : Result (Numbered × List Entry) JournalError) (x : JournalError) → r ≡ Err x → WhereTold told told' (λ a s. Loads from r a s) → WhereTold told told' (λ a s. LoadsEntries from (Err x) a s)
+loads_err_at from told told' r x e l = subst (λ (y : Result (Numbered × List Entry) JournalError). WhereTold told told' (λ a s. Loads from y a s)) e l
 
 pub opening_at : (core : Core) (log : Log) (r r' : Result Life WorldError) (told : Option State) (now : ℕ) → r ≡ r' → Opening core log r told now → Opening core log r' told now
 opening_at core log r r' told now e o = subst (λ (x : Result Life WorldError). Opening core log x told now) e o

@@ -122,9 +122,9 @@ pub ok_of : (es : List Entry) → 0 < length es → load_answer es ≡ Ok tt
 ok_of [] some = absurd (omega (arith, some))
 ok_of (e ∷ es) some = refl
 
-abbrev pub whole_loaded : (old mid new : State) (core : Core) (log : Log) (read : List Entry) (now : ℕ) → IsWorld old core log → core.clock < 2 ^ 62 → 0 < length read → LoadLaw old new core log read (load_answer read) now → IsJournal mid read →
+abbrev pub whole_loaded : (old mid new : State) (core : Core) (log : Log) (read : List Entry) (snapped now : ℕ) → IsWorld old core log → core.clock < 2 ^ 62 → 0 < length read → LoadLaw old new core log read snapped (load_answer read) now → IsJournal mid read →
     Reborn new core log read now
-whole_loaded old mid new core log read now w clock some l j =
+whole_loaded old mid new core log read snapped now w clock some l j =
     record {
       fate = l.fate;
       after = l.after;
@@ -183,16 +183,16 @@ index_not_corrupt kept entries log n key i c =
     let bytes : a.has.bytes ≡ c.bytes = cc same in
     c.is_none a.entry a.has.can (subst (λ b. Spells b a.entry) bytes a.has.spells)
 
-pub index_not_foreign : (kept : State) (entries : List Entry) (log : Log) (key : List ℕ) → IsIndexOf kept entries log → IsForeign kept key → ⊥
-index_not_foreign kept entries log key i f =
-    let there = i.stands.no_other key f.prefix f.stands in
+pub index_not_foreign : (kept : State) (entries : List Entry) (log : Log) (from : ℕ) (key : List ℕ) → IsIndexOf kept entries log → IsForeign from kept key → ⊥
+index_not_foreign kept entries log from key i f =
+    let there = i.stands.no_other key f.listed.0 f.stands in
     let low = there.1 in
     let gap = f.is_none there.0 (let within = i.stands.within in omega (arith, low, within)) there.2 in
-    let below = gap.1 in
-    true_is_false (sym (Stand-at kept 0 entries gap.0 (omega arith) (omega (arith, low, below)) (stand-of kept 0 entries None i.stands.journal)) ∙ ap is_some gap.2)
+    let below = gap.2 in
+    true_is_false (sym (Stand-at kept 0 entries gap.0 (omega arith) (omega (arith, low, below)) (stand-of kept 0 entries None i.stands.journal)) ∙ ap is_some gap.3)
 
 pub load_no_corrupt : (old new : State) (core : Core) (log : Log) (now n : ℕ) (key : List ℕ) → IsWorld old core log → Counted core now → HasLanded old new → IsCorrupt new n key → ⊥
 load_no_corrupt old new core log now n key w c t bad = index_not_corrupt new _ log n key (appends_short old new core log now w c t).onward.world.index bad
 
-pub load_no_foreign : (old new : State) (core : Core) (log : Log) (now : ℕ) (key : List ℕ) → IsWorld old core log → Counted core now → HasLanded old new → IsForeign new key → ⊥
-load_no_foreign old new core log now key w c t bad = index_not_foreign new _ log key (appends_short old new core log now w c t).onward.world.index bad
+pub load_no_foreign : (old new : State) (core : Core) (log : Log) (now from : ℕ) (key : List ℕ) → IsWorld old core log → Counted core now → HasLanded old new → IsForeign from new key → ⊥
+load_no_foreign old new core log now from key w c t bad = index_not_foreign new _ log from key (appends_short old new core log now w c t).onward.world.index bad
