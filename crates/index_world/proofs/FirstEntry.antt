@@ -73,8 +73,8 @@ unread_least es (Some entry) = omega (arith, length-append es (entry ∷ []))
 tries_at : (n m : ℕ) (x y : Entry) (answer : Result (Unit {0}) CreateError) (mid new : State) → n ≡ m → x ≡ y → Tries n x answer mid new → Tries m y answer mid new
 tries_at n m x y answer mid new p q t = subst (λ (k : ℕ). Tries k y answer mid new) p (subst (λ (e : Entry). Tries n e answer mid new) q t)
 
-pub landed_first : (old mid : State) → IsLoaded [] old mid → HasLanded old mid
-landed_first old mid l = HasLanded-trans old l.mid mid l.before l.behind
+pub landed_first : (old mid : State) → IsVacant old mid → HasLanded old mid
+landed_first old mid v = HasLanded-trans old v.mid mid v.none.landed (HasLanded-trans v.mid v.vacant.mid mid v.vacant.before v.vacant.behind)
 
 -- ---- over an index
 
@@ -118,17 +118,19 @@ module _ (old new : State) (core : Core) (log : Log) (text : List ℕ) (now : �
       unread_by error told' (λ after. not_read (store_failed core.store_faults after)) (λ after. not_created (store_failed core.store_faults after)) tells u refl
       (subst (λ (n : ℕ). IsUncreated error (not_created (faulted (store_fault core.store_faults n)))) (sym u.faults) says) u.history
 
-  -- the journal has an entry
-  entries_none : (error : WorldError) (told' : Option State) (first : Entry) (more : List Entry) → told' ≡ Some new → IsLoaded (first ∷ more) old new → IsUncreated error index_exists → CreatesNone text core log error told' now
-  entries_none error told' first more tells h says =
-      let l = load_law once old h.mid new core log (first ∷ more) now w counted h.before h.journal h.behind in
-      none_by error told' (fate_with l.fate calm_get) index_exists l.after l.more tells (ap (λ (g : Gives Unread ⊤). created_from g calm_get core.store_faults text) l.did) l.onward l.grown l.faults says
-      (let e = ap length l.history in let more = unread_least l.after.history l.after.standing in omega (arith, e, more))
+  -- a snapshot stands, or the journal has an entry
+  entries_none : (error : WorldError) (told' : Option State) → told' ≡ Some new → Behind HasEntries old new → IsUncreated error index_exists → CreatesNone text core log error told' now
+  entries_none error told' tells h says =
+      let es = whole old core log w h.0 h.1 h.2 h.3 new h.4.0 h.4.2 in
+      let some : 0 < length es = let c = whole_count old core log w h.0 h.1 h.2 h.3 new h.4.0 h.4.2 in let some = h.4.1 in omega (arith, c, some) in
+      let l : LoadLaw old new core log es h.0 (load_answer es) now = whole_law old core log w h.0 h.1 h.2 h.3 new h.4.0 h.4.2 now counted in
+      none_by error told' (fate_with l.fate calm_get) index_exists l.after l.more tells (ap (λ (g : Gives Unread ⊤). created_from g calm_get core.store_faults text) (l.did ∙ ap (λ r. gives r l.after) (ok_of es some))) l.onward l.grown l.faults says
+      (let e = ap length l.history in let more = unread_least l.after.history l.after.standing in omega (arith, e, more, some))
 
   -- the text is no configuration
-  bad_none : (error : WorldError) (told' : Option State) (bad : ConfigError) → told' ≡ Some new → IsLoaded [] old new → config_answer text ≡ Err bad → IsUncreated error (bad_config bad) → CreatesNone text core log error told' now
+  bad_none : (error : WorldError) (told' : Option State) (bad : ConfigError) → told' ≡ Some new → IsVacant old new → config_answer text ≡ Err bad → IsUncreated error (bad_config bad) → CreatesNone text core log error told' now
   bad_none error told' bad tells h is says =
-      let l = load_law once old h.mid new core log [] now w counted h.before h.journal h.behind in
+      let l = vacant_law old core log w new now counted h in
       none_by error told' (fate_with l.fate calm_get) (bad_config bad) l.after l.more tells
       (ap (λ (g : Gives Unread ⊤). created_from g calm_get core.store_faults text) l.did ∙ ap (λ (r : Result IndexConfig ConfigError). created_by r calm_get core.store_faults text l.after) is)
       l.onward l.grown l.faults says (front_none core.history l.more (sym l.grown ∙ l.history), l.history, is)
@@ -137,8 +139,8 @@ module _ (old new : State) (core : Core) (log : Log) (text : List ℕ) (now : �
 
   -- `count` is the store's count between the load and the create
   module _ (mid : State) (b : MayBegin text old mid) (count : ℕ) (after_load : core.store_faults ≤ count) (before_now : count ≤ now) where
-    abbrev l : LoadLaw old mid core log [] (Err no_index) count
-    l = load_law once old b.vacant.mid mid core log [] count w (record { later = after_load; within = omega (arith, before_now, within) }) b.vacant.before b.vacant.journal b.vacant.behind
+    abbrev l : LoadLaw old mid core log [] 0 (Err no_index) count
+    l = vacant_law old core log w mid count (record { later = after_load; within = omega (arith, before_now, within) }) b.vacant
 
     c : IsConfig text
     c = config_given text b.config
@@ -308,13 +310,16 @@ module _ (old new : State) (core : Core) (log : Log) (text : List ℕ) (now : �
     not_made (errors.Refused refusal) h = absurd h
     not_made (errors.StoreFault a z) h = fault_none a z h.1 h.2 h.3 h.0
     not_made (errors.Missing key) h = absurd h
-    not_made (errors.Corrupt key) (inl h) = absurd (load_no_corrupt old h.mid core log now (length h.first.0) key w counted h.counted.landed h.first.2)
-    not_made (errors.Corrupt key) (inr h) = absurd (load_no_corrupt old new core log now 0 key w counted (HasLanded-trans old h.0 new (landed_first old h.0 h.1.vacant) h.2.0) h.2.1)
-    not_made (errors.Foreign key) h = absurd (load_no_foreign old new core log now key w counted h.0 h.1)
+    not_made (errors.Corrupt key) (inl h) = absurd (snap_never_spoilt h.number h.bytes old new (landed_index old core log w h.last.mid h.last.before).more log h.last (landed_index old core log w h.last.mid h.last.before).index h.none)
+    not_made (errors.Corrupt key) (inr (inl h)) =
+        absurd (load_no_corrupt old h.4.mid core log now (h.1.revision + length h.4.first.0) key w counted (HasLanded-trans old h.2 h.4.mid (to_mid old core log w h.0 h.1 h.2 h.3) h.4.counted.landed) h.4.first.2)
+    not_made (errors.Corrupt key) (inr (inr h)) = absurd (load_no_corrupt old new core log now 0 key w counted (HasLanded-trans old h.0 new (landed_first old h.0 h.1.vacant) h.2.0) h.2.1)
+    not_made (errors.Foreign key) (inl h) = absurd (snap_never_foreign key old new (landed_index old core log w new h.landed).more log h (landed_index old core log w new h.landed).index)
+    not_made (errors.Foreign key) (inr h) = absurd (load_no_foreign old new core log now h.1.revision key w counted (HasLanded-trans old h.2 new (to_mid old core log w h.0 h.1 h.2 h.3) h.4.0) h.4.1)
     not_made errors.Full h = absurd h
     not_made (errors.Expired planned_at reached) h = absurd h
     not_made errors.NoIndex h = absurd h
-    not_made errors.IndexExists (inl h) = entries_none errors.IndexExists told' h.0 h.1 tells h.2 refl
+    not_made errors.IndexExists (inl h) = entries_none errors.IndexExists told' tells h refl
     not_made errors.IndexExists (inr h) = landed_none h.0 h.1 now later (omega arith) errors.IndexExists told' tells h.2 refl
     not_made (errors.BadConfig bad) h = bad_none (errors.BadConfig bad) told' bad tells h.0 h.1 refl
 

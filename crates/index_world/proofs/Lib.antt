@@ -15,6 +15,7 @@ pub mod SnapCalls
 pub mod SnapPages
 pub mod SnapReading
 pub mod SnapOpening
+pub mod SnapLaws
 pub mod Rows
 pub mod Deleting
 pub mod Entering

@@ -1,18 +1,15 @@
 -- What opening the index of a store did, in the words of the core.
-use Rattle.std.proofs.Common.{◌≡◌, ◌⊎◌, ℕ, ◌+◌, ◌<◌, ◌≤◌, ◌^◌, List, [], ◌∷◌, ◌++◌, refl, sym, ap, ◌∙◌, subst, inl, inr, Bool, false, length, take, None, arith, append-nil}
-use Rattle.std.proofs.lemmas.List.{length-append, length-take-le, take-append-le}
-use Rattle.std.proofs.lemmas.List.Sums.{fold-append}
+use Rattle.std.proofs.Common.{◌≡◌, ℕ, ◌+◌, ◌<◌, ◌≤◌, ◌^◌, List, [], refl, sym, ap, ◌∙◌, subst, Bool, false, length, None, arith, append-nil}
+use Rattle.std.proofs.lemmas.List.{length-append}
 use Rattle.std.specs.Prelude.{Option, Some, Result, Ok, Err, ⊤}
 use Rattle.byte_fields.specs.Causes.{Rose}
 use Rattle.meta_journal.specs.Journal.{Numbered}
 use Rattle.meta_journal.specs.Loading.{Loads, LoadsEntries, IsLoaded, loaded}
-use Rattle.meta_journal.specs.Places.{StandFrom}
 use Rattle.meta_journal.specs.declared.entry.Entry.{Entry}
 use Rattle.meta_journal.specs.declared.journal_error.JournalError.{JournalError}
 use Rattle.meta_journal.specs.declared.journal_error.JournalError.TheVariants as journal
 use Rattle.meta_store.specs.History.{history}
-use Rattle.meta_store.specs.History.History.{Start, ◌▸◌}
-use Rattle.meta_store.specs.State.{Legal, state_of}
+use Rattle.meta_store.specs.State.{state_of}
 use Rattle.meta_store.specs.State as meta
 use Rattle.object_store.proofs.Landings.{HasLanded-refl, HasLanded-trans}
 use Rattle.object_store.specs.Store.{State, HasLanded, WhereTold}
@@ -23,8 +20,7 @@ use Rattle.index_world.specs.declared.world_error.WorldError.TheVariants as erro
 use Rattle.index_world.specs.Answering.{Takes}
 use Rattle.index_world.specs.Calls.{Unread, not_read, no_index, no_memory, faulted, store_fault, store_failed, gives}
 use Rattle.index_world.specs.Config.{reads}
-use Rattle.index_world.specs.Core.{Core, last_count, journal_of, Marking, taken_at, is_in, Upkeep}
-use Rattle.index_world.specs.Held.{NoneAtEnd}
+use Rattle.index_world.specs.Core.{Core, last_count, Marking, taken_at, is_in, Upkeep}
 use Rattle.index_world.specs.Life.{NotesNothing, Opening, StandsBy}
 use Rattle.index_world.specs.Loading.{IsUnread, LoadsWorld, LoadsNone, LoadsAnew}
 use Rattle.index_world.specs.Opened.{BeginsAt, state_behind}
@@ -34,16 +30,14 @@ use Rattle.index_world.specs.Taking.{IsFaultBetween, IsWant, of_journal}
 use Rattle.index_world.specs.Unsure.{is_unsure}
 use Rattle.index_world.specs.World.{IsWorld, WorldStands}
 use Rattle.std.specs.Result.{IsErrAnd}
-use Rattle.index_world.proofs.Fronts.{AreTimely, timely_from, takes_legal, no_entry_left}
-use Rattle.index_world.proofs.FileCalls.{LoadLaw, UnreadLaw, load_answer, load_law, load_failed_law, load_short_law}
+use Rattle.index_world.proofs.Fronts.{AreTimely, timely_from, no_entry_left}
+use Rattle.index_world.proofs.FileCalls.{LoadLaw, UnreadLaw, load_answer, load_failed_law, load_short_law}
 use Rattle.index_world.proofs.Gates.{kept_by}
 use Rattle.index_world.proofs.InCore.{keeps_all, keeps_reread}
-use Rattle.index_world.proofs.Indexing.{index-HasLanded}
 use Rattle.index_world.proofs.Journals.{once}
 use Rattle.index_world.proofs.Lives.{Told, told_of}
-use Rattle.index_world.proofs.Numbers.{revision_is}
-use Rattle.index_world.proofs.SnapOpening.{BegunSound, begun_sound, snap_never_spoilt, snap_never_foreign, rest_read, state_whole}
-use Rattle.index_world.proofs.StoreCalls.{Landed, landed_to as landed_index_of}
+use Rattle.index_world.proofs.SnapLaws.{landed_index, to_mid, whole, whole_state, whole_count, whole_takes, whole_journal, whole_law}
+use Rattle.index_world.proofs.SnapOpening.{snap_never_spoilt, snap_never_foreign}
 use Rattle.index_world.proofs.Transacting.{ends_same, timely_same}
 use Rattle.index_world.proofs.WholeFiles.{Reborn, whole_loaded, load_no_corrupt, load_no_foreign}
 
@@ -59,18 +53,6 @@ want_unread (errors.Expired planned_at reached) h = absurd h
 want_unread errors.NoIndex h = absurd h
 want_unread errors.IndexExists h = absurd h
 want_unread (errors.BadConfig bad) h = absurd h
-
-grown_of : (late : List (List ℕ × List ℕ)) (es more : List Entry) → (more ≡ es) ⊎ ((e : Entry) × (more ≡ es ++ e ∷ []) × NoneAtEnd late more) → (more ≡ es) ⊎ ((e : Entry) × (more ≡ es ++ e ∷ []))
-grown_of late es more (inl same) = inl same
-grown_of late es more (inr one) = inr (one.0, one.1)
-
--- a journal that went on begins with the same entries
-first_of : (n : ℕ) (es more : List Entry) → n ≤ length es → (more ≡ es) ⊎ ((e : Entry) × (more ≡ es ++ e ∷ [])) → (n ≤ length more) × (take n es ≡ take n more)
-first_of n es more le (inl same) = (subst (λ (xs : List Entry). n ≤ length xs) (sym same) le, ap (take n) (sym same))
-first_of n es more le (inr one) =
-    let longer = ap length one.1 in
-    let count = length-append es (one.0 ∷ []) in
-    (omega (arith, le, longer, count), sym (take-append-le n es (one.0 ∷ []) le) ∙ ap (take n) (sym one.1))
 
 module _ (old : State) (core : Core) (log : Log) (n now : ℕ) (told told' : Option State) (e : told ≡ Some old) (w : IsWorld old core log) (at : n ≡ core.store_faults) (later : n ≤ now) (within : now ≤ last_count) where
   counted : Counted core now
@@ -102,18 +84,14 @@ module _ (old : State) (core : Core) (log : Log) (n now : ℕ) (told told' : Opt
       none_by new (λ after. not_read (store_failed core.store_faults after)) (errors.StoreFault low high) t u
       (ap (λ (m : ℕ). not_read (faulted (store_fault core.store_faults m))) (u.faults ∙ sym fault.1) ∙ ap (λ (m : ℕ). not_read (faulted (store_fault m high))) (sym (fault.0 ∙ at)))
 
-  -- the index of what landed
-  landed_index : (mid : State) → HasLanded old mid → Landed old mid (journal_of core) log
-  landed_index mid l = landed_index_of old mid (journal_of core) log (index-HasLanded old mid (journal_of core) log w.index l)
-
   -- opening didn't begin
   pub opening_not_begun : (new : State) (error : WorldError) → told' ≡ Some new → IsFaultBetween n now error → BeginsNot error old new → Opening core log (Err error) told' now
   opening_not_begun new (errors.Memory a) t fault b = opening_short new new (errors.Memory a) t b (HasLanded-refl new) tt
   opening_not_begun new (errors.StoreFault low high) t fault b = faulted_by new low high t b fault
   opening_not_begun new (errors.Corrupt key) t fault b =
-      let l = landed_index b.last.mid b.last.before in
+      let l = landed_index old core log w b.last.mid b.last.before in
       absurd (snap_never_spoilt b.number b.bytes old new l.more log b.last l.index b.none)
-  opening_not_begun new (errors.Foreign key) t fault b = let l = landed_index new b.landed in absurd (snap_never_foreign key old new l.more log b l.index)
+  opening_not_begun new (errors.Foreign key) t fault b = let l = landed_index old core log w new b.landed in absurd (snap_never_foreign key old new l.more log b l.index)
   opening_not_begun new (errors.Missing key) t fault b = absurd b
   opening_not_begun new (errors.Refused refusal) t fault b = absurd b
   opening_not_begun new errors.Full t fault b = absurd b
@@ -123,72 +101,41 @@ module _ (old : State) (core : Core) (log : Log) (n now : ℕ) (told told' : Opt
   opening_not_begun new (errors.BadConfig bad) t fault b = absurd b
 
   module _ (snapped : ℕ) (start : meta.State) (mid new : State) (b : BeginsAt snapped start old mid) (t : told' ≡ Some new) where
-    from : BegunSound snapped start old mid
-    from = begun_sound snapped start old mid b
-
-    to_mid : HasLanded old mid
-    to_mid = HasLanded-trans old from.listed mid from.before from.behind
-
-    -- what was listed when the snapshot was
-    first_index : Landed old from.listed (journal_of core) log
-    first_index = landed_index from.listed from.before
-
-    first_state : (snapped ≤ length first_index.more) × (start ≡ state_of reads (history (take snapped first_index.more)))
-    first_state = from.state first_index.more log first_index.index
+    landed : HasLanded old mid
+    landed = to_mid old core log w snapped start mid b
 
     pub opening_failed : (number before : ℕ) (x : JournalError) (error : WorldError) → error ≡ of_journal number before x → IsFaultBetween n now error → LoadsEntries start.revision (Err x) mid new → Opening core log (Err error) told' now
     opening_failed number before x error is fault l = subst (λ (y : WorldError). Opening core log (Err y) told' now) (sym is) (by x (subst (IsFaultBetween n now) is fault) l)
       where
         by : (x : JournalError) → IsFaultBetween n now (of_journal number before x) → LoadsEntries start.revision (Err x) mid new → Opening core log (Err (of_journal number before x)) told' now
-        by (journal.Memory a) fault l = opening_short mid new (errors.Memory a) t to_mid l tt
-        by (journal.StoreFault low high) fault l = faulted_by new before high t (HasLanded-trans old mid new to_mid l) fault
-        by (journal.Foreign key) fault l = absurd (load_no_foreign old new core log now start.revision key w counted (HasLanded-trans old mid new to_mid l.0) l.1)
-        by (journal.Corrupt key) fault l = absurd (load_no_corrupt old l.mid core log now (start.revision + length l.first.0) key w counted (HasLanded-trans old mid l.mid to_mid l.counted.landed) l.first.2)
+        by (journal.Memory a) fault l = opening_short mid new (errors.Memory a) t landed l tt
+        by (journal.StoreFault low high) fault l = faulted_by new before high t (HasLanded-trans old mid new landed l) fault
+        by (journal.Foreign key) fault l = absurd (load_no_foreign old new core log now start.revision key w counted (HasLanded-trans old mid new landed l.0) l.1)
+        by (journal.Corrupt key) fault l = absurd (load_no_corrupt old l.mid core log now (start.revision + length l.first.0) key w counted (HasLanded-trans old mid l.mid landed l.counted.landed) l.first.2)
         by (journal.Missing key) fault l = absurd l
         by (journal.Adopted f) fault l = absurd l
         by journal.Full fault l = absurd l
 
     module _ (read : List Entry) (l : IsLoaded start.revision read mid new) where
-      whole_index : Landed from.listed l.mid first_index.more log
-      whole_index = landed_index_of from.listed l.mid first_index.more log (index-HasLanded from.listed l.mid first_index.more log first_index.index (HasLanded-trans from.listed mid l.mid from.behind l.before))
+      state : state_behind start read ≡ state_of reads (history (whole old core log w snapped start mid b new read l))
+      state = whole_state old core log w snapped start mid b new read l
 
-      whole : List Entry
-      whole = whole_index.more
+      count : length (whole old core log w snapped start mid b new read l) ≡ start.revision + length read
+      count = whole_count old core log w snapped start mid b new read l
 
-      -- the snapshot's entries are the first of what was read
-      first : (snapped ≤ length whole) × (take snapped first_index.more ≡ take snapped whole)
-      first = first_of snapped first_index.more whole first_state.0 (grown_of l.mid.late first_index.more whole whole_index.grown)
-
-      start_is : start ≡ state_of reads (history (take snapped whole))
-      start_is = first_state.1 ∙ ap (λ (es : List Entry). state_of reads (history es)) first.1
-
-      revision : start.revision ≡ snapped
-      revision = ap (λ (s : meta.State). s.revision) start_is ∙ revision_is (take snapped whole) ∙ length-take-le snapped whole first.0
-
-      whole_is : whole ≡ take snapped whole ++ read
-      whole_is = rest_read l.mid whole read snapped first.0 whole_index.index.stands.journal (subst (λ (k : ℕ). StandFrom l.mid k read None) revision l.journal)
-
-      state : state_behind start read ≡ state_of reads (history whole)
-      state = ap (λ (s : meta.State). state_behind s read) start_is ∙ state_whole whole read (take snapped whole) whole_is
-
-      count : length whole ≡ start.revision + length read
-      count = let a = ap length whole_is in let c = length-append (take snapped whole) read in let d = length-take-le snapped whole first.0 in omega (arith, a, c, d, revision)
-
-      law : LoadLaw old new core log whole snapped (load_answer whole) now
-      law = load_law once old from.listed l.mid new core log whole snapped now w counted from.before (λ begin wb. from.snap begin log wb) (HasLanded-trans from.listed mid l.mid from.behind l.before) whole_index.index.stands.journal l.behind
+      law : LoadLaw old new core log (whole old core log w snapped start mid b new read l) snapped (load_answer (whole old core log w snapped start mid b new read l)) now
+      law = whole_law old core log w snapped start mid b new read l now counted
 
       -- what was read may be taken in, and its moments can be spelled
       pub read_takes : Takes start read (state_behind start read)
-      read_takes =
-          subst (λ (s : meta.State). Takes s read (state_behind s read)) (sym start_is)
-          (takes_legal (history (take snapped whole)) read (subst (Legal reads) (ap history whole_is ∙ fold-append ◌▸◌ Start (take snapped whole) read) whole_index.index.stands.legal))
+      read_takes = whole_takes old core log w snapped start mid b new read l
 
       pub read_timely : AreTimely read
       read_timely = timely_from l.mid start.revision read None l.journal
 
       pub opening_empty : start.revision ≡ 0 → read ≡ [] → Opening core log (Err errors.NoIndex) told' now
       opening_empty zero none =
-          let nothing : whole ≡ [] = no_entry_left whole (let c = count in let e = ap length none in omega (arith, c, e, zero)) in
+          let nothing : whole old core log w snapped start mid b new read l ≡ [] = no_entry_left (whole old core log w snapped start mid b new read l) (let c = count in let e = ap length none in omega (arith, c, e, zero)) in
           record {
             new = new;
             tells = t;
@@ -204,7 +151,7 @@ module _ (old : State) (core : Core) (log : Log) (n now : ℕ) (told told' : Opt
           }
 
       pub opening_wants : (error : WorldError) → IsWant error → Opening core log (Err error) told' now
-      opening_wants error want = opening_short l.mid new error t (HasLanded-trans old mid l.mid to_mid l.before) l.behind want
+      opening_wants error want = opening_short l.mid new error t (HasLanded-trans old mid l.mid landed l.before) l.behind want
 
       pub opening_ok : (life : Life) → core.clock < 2 ^ 62 → 0 < start.revision + length read → life.journal ≡ loaded (start.revision + length read) → life.meta.state ≡ state_behind start read → life.moment ≡ life.meta.state.moment → NotesNothing life → life.snapped ≡ snapped →
           Opening core log (Ok life) told' now
@@ -235,8 +182,8 @@ module _ (old : State) (core : Core) (log : Log) (n now : ℕ) (told told' : Opt
             };
           }
         where
-          r : Reborn new core log whole now
-          r = whole_loaded old l.mid new core log whole snapped now w clock (let c = count in omega (arith, c, some)) law whole_index.index.stands.journal
+          r : Reborn new core log (whole old core log w snapped start mid b new read l) now
+          r = whole_loaded old l.mid new core log (whole old core log w snapped start mid b new read l) snapped now w clock (let c = count in omega (arith, c, some)) law (whole_journal old core log w snapped start mid b new read l)
 
 -- ---- at a result
 

@@ -19,7 +19,7 @@ ghost use Rattle.index_world.specs.Taking.{IsFaultBetween};
 use crate::config::reading_of_text;
 use crate::doom_list::Doomed;
 use crate::life::Life;
-use crate::starting::{Beginning, begin};
+use crate::starting::begin;
 use crate::steady::SteadyClock;
 use crate::taking::{prepare, world_error};
 use crate::world_error::WorldError;
@@ -146,9 +146,9 @@ pub fn create<S: ObjectStore, C: SteadyClock>(
     ensures created { WhereTold (S.told store.old) (S.told store.new) (CreatesTo text.now (C.told clock.old) (S.fault_count store.old) (S.fault_count store.new) result) }
 {
     let before = store.faults();
-    let Beginning { snapped: _, meta } = begin(alloc, store, before)?;
-    let number = meta.revision();
-    mem::drop(meta);
+    let beginning = begin(alloc, store, before)?;
+    let number = beginning.meta.revision();
+    mem::drop(beginning);
     match Journal::load(alloc, store, number) {
         Ok((journal, entries)) => {
             let is_first = number == 0 && entries.is_empty();

@@ -274,7 +274,8 @@ pub fn open<S: ObjectStore>(alloc: Global, store: &mut S) -> Result<Life, WorldE
         IsWorld old core log → core.clock < 2 ^ 62 → Opening core log result (S.told store.new) (S.fault_count store.new) }
 {
     let before = store.faults();
-    let Beginning { snapped, meta } = begin(alloc, store, before)?;
+    let beginning = begin(alloc, store, before)?;
+    let Beginning { snapped, meta } = beginning;
     let number = meta.revision();
     let answer = Journal::load(alloc, store, number);
     // The count of a store has its range.
