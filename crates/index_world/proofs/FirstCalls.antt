@@ -1,5 +1,5 @@
 -- What the calls that make an index answer, over any store that tells.
-use Rattle.std.proofs.Common.{◌≡◌, ℕ, ◌<◌, ◌≤◌, ◌^◌, List, [], ◌∷◌, refl, sym, ap, ◌∙◌, subst, inl, inr, Bool, false, arith, IsOk}
+use Rattle.std.proofs.Common.{◌≡◌, ℕ, zero, suc, ◌+◌, ◌<◌, ◌≤◌, ◌^◌, List, [], ◌∷◌, length, refl, sym, ap, ◌∙◌, subst, inl, inr, Bool, false, arith, IsOk}
 use Rattle.std.proofs.lemmas.Bool.Decides.{nat_tests}
 use Rattle.std.specs.Prelude.{Option, Some, None, Result, Ok, Err, IfOk, IfErr, MatchResult, nat_lt, if◌then◌else◌}
 use Rattle.index_config.specs.Answer.{config_answer}
@@ -23,17 +23,20 @@ use Rattle.meta_store.specs.declared.config.Settings.{Settings}
 use Rattle.meta_store.specs.declared.refusal.Refusal.TheVariants.{MomentBack}
 use Rattle.source_checkpoint.specs.Deltas.{then_answer}
 use Rattle.object_store.proofs.Landings.{HasLanded-trans}
-use Rattle.object_store.specs.Store.{State, WhereTold}
+use Rattle.object_store.specs.Store.{State, HasLanded, WhereTold}
 use Rattle.index_world.specs.Config.{reads, settings_of}
-use Rattle.index_world.specs.Created.{create_at, IsToldBy, MayBegin, CreatesNot, CreatesIndex, CreatesLife, CreatesTo, of_first, AppendsFirst, IsBadText, IsOfCreate}
+use Rattle.index_world.specs.Created.{create_at, IsVacant, IsToldBy, MayBegin, CreatesNot, CreatesIndex, CreatesLife, CreatesTo, of_first, AppendsFirst, IsBadText, IsOfCreate}
 use Rattle.index_world.specs.Core.{no_upkeep}
 use Rattle.index_world.specs.Life.{LifeIs}
+use Rattle.index_world.specs.Opened.{BeginsAt}
+use Rattle.index_world.specs.Starting.{BeginsNot}
 use Rattle.index_world.specs.Taking.{IsFaultBetween, IsUnprepared, IsWant, of_journal}
 use Rattle.index_world.specs.declared.life.Life.{Life}
 use Rattle.index_world.specs.declared.world_error.WorldError.{WorldError}
 use Rattle.index_world.specs.declared.world_error.WorldError.TheVariants as errors
 use Rattle.index_world.proofs.FirstEntry.{landed_first}
 use Rattle.index_world.proofs.Gates.{kept_by}
+use Rattle.index_world.proofs.OpenedLemmas.{begun_landed}
 use Rattle.index_world.proofs.StoreKeys.{true_is_false}
 use Rattle.index_world.proofs.Transacting.{fault_tried}
 
@@ -193,23 +196,48 @@ begun_kind text (Err error) ok kinds = kinds text
 -- ---- the whole
 
 module _ (text : List ℕ) (clock : Option ℕ) (n now : ℕ) where
-  pub load_failed : (number before : ℕ) (x : JournalError) (error : WorldError) → error ≡ of_journal number before x → before ≡ n → FaultIs n now x → (old new : State) → LoadsEntries (Err x) old new → CreatesTo text clock n now (Err error) old new
-  load_failed number before x error is start fault old new l = subst (λ (y : WorldError). CreatesNot text clock n now y old new) (sym is) (by x fault l)
-    where
-      by : (x : JournalError) → FaultIs n now x → LoadsEntries (Err x) old new → CreatesNot text clock n now (of_journal number before x) old new
-      by (journal.Memory a) fault l = l
-      by (journal.StoreFault low high) fault l = (inl l, start, fault.1, fault.2)
-      by (journal.Foreign key) fault l = l
-      by (journal.Corrupt key) fault l = inl l
-      by (journal.Missing key) fault l = absurd l
-      by (journal.Adopted f) fault l = absurd l
-      by journal.Full fault l = absurd l
+  pub begin_failed : (error : WorldError) → IsFaultBetween n now error → (old new : State) → BeginsNot error old new → CreatesTo text clock n now (Err error) old new
+  begin_failed (errors.Memory a) fault old new b = b
+  begin_failed (errors.StoreFault low high) fault old new b = (inl b, fault.0, fault.1, fault.2)
+  begin_failed (errors.Corrupt key) fault old new b = inl b
+  begin_failed (errors.Foreign key) fault old new b = inl b
+  begin_failed (errors.Missing key) fault old new b = absurd b
+  begin_failed (errors.Refused refusal) fault old new b = absurd b
+  begin_failed errors.Full fault old new b = absurd b
+  begin_failed (errors.Expired planned_at reached) fault old new b = absurd b
+  begin_failed errors.NoIndex fault old new b = absurd b
+  begin_failed errors.IndexExists fault old new b = absurd b
+  begin_failed (errors.BadConfig bad) fault old new b = absurd b
 
-  pub entries_found : (es : List Entry) → (es ≡ [] → ⊥) → (old new : State) → LoadsEntries (Ok es) old new → CreatesTo text clock n now (Err errors.IndexExists) old new
-  entries_found [] some old new l = absurd (some refl)
-  entries_found (e ∷ es) some old new l = inl (e, es, l)
+  module _ (snapped : ℕ) (start : meta.State) (old mid new : State) (b : BeginsAt snapped start old mid) where
+    pub load_failed : (number before : ℕ) (x : JournalError) (error : WorldError) → error ≡ of_journal number before x → IsFaultBetween n now error → LoadsEntries start.revision (Err x) mid new → CreatesTo text clock n now (Err error) old new
+    load_failed number before x error is fault l = subst (λ (y : WorldError). CreatesNot text clock n now y old new) (sym is) (by x (subst (IsFaultBetween n now) is fault) l)
+      where
+        whole : HasLanded mid new → HasLanded old new
+        whole h = HasLanded-trans old mid new (begun_landed snapped start old mid b) h
 
-  bad_text : (error : WorldError) → IsBadText text error → (old new : State) → IsLoaded [] old new → CreatesNot text clock n now error old new
+        by : (x : JournalError) → IsFaultBetween n now (of_journal number before x) → LoadsEntries start.revision (Err x) mid new → CreatesNot text clock n now (of_journal number before x) old new
+        by (journal.Memory a) fault l = whole l
+        by (journal.StoreFault low high) fault l = (inl (whole l), fault.0, fault.1, fault.2)
+        by (journal.Foreign key) fault l = inr (snapped, start, mid, b, l)
+        by (journal.Corrupt key) fault l = inr (inl (snapped, start, mid, b, l))
+        by (journal.Missing key) fault l = absurd l
+        by (journal.Adopted f) fault l = absurd l
+        by journal.Full fault l = absurd l
+
+    pub entries_found : (es : List Entry) → 0 < start.revision + length es → LoadsEntries start.revision (Ok es) mid new → CreatesTo text clock n now (Err errors.IndexExists) old new
+    entries_found es some l = inl (snapped, start, mid, b, (es, some, l))
+
+  -- where opening begins at no entry and reads none, nothing stands
+  pub vacant_of : (snapped : ℕ) (start : meta.State) (old mid new : State) (es : List Entry) → BeginsAt snapped start old mid → start.revision ≡ 0 → es ≡ [] → LoadsEntries start.revision (Ok es) mid new → IsVacant old new
+  vacant_of zero start old mid new es b zeroth none l =
+      record { mid = mid; none = b.0; vacant = subst (λ (k : ℕ). IsLoaded k [] mid new) zeroth (subst (λ (xs : List Entry). IsLoaded start.revision xs mid new) none l) }
+  vacant_of (suc m) start old mid new es b zeroth none l =
+      let r = b.2 in
+      let same : start.revision ≡ suc m = ap (λ (s : meta.State). s.revision) r.state ∙ r.revision in
+      absurd (omega (arith, same, zeroth))
+
+  bad_text : (error : WorldError) → IsBadText text error → (old new : State) → IsVacant old new → CreatesNot text clock n now error old new
   bad_text (errors.Memory e) bad old new l = landed_first old new l
   bad_text (errors.BadConfig error) bad old new l = (l, bad)
   bad_text (errors.Refused refusal) bad old new l = absurd bad
@@ -222,18 +250,15 @@ module _ (text : List ℕ) (clock : Option ℕ) (n now : ℕ) where
   bad_text errors.NoIndex bad old new l = absurd bad
   bad_text errors.IndexExists bad old new l = absurd bad
 
-  pub bad_text_at : (error : WorldError) → IsBadText text error → (es : List Entry) → es ≡ [] → (old new : State) → LoadsEntries (Ok es) old new → CreatesTo text clock n now (Err error) old new
-  bad_text_at error bad es none old new l = bad_text error bad old new (subst (λ (xs : List Entry). IsLoaded xs old new) none l)
+  pub bad_text_at : (error : WorldError) → IsBadText text error → (old new : State) → IsVacant old new → CreatesTo text clock n now (Err error) old new
+  bad_text_at error bad old new l = bad_text error bad old new l
 
-  pub first_begun : (es : List Entry) (moment : ℕ) (entry : Entry) (r : Result Life WorldError) → es ≡ [] → IsOk (config_answer text) → entry ≡ create_at text moment → IsToldBy clock moment → moment < 2 ^ 62 → IfErr r (IsFaultBetween n now) →
-      IfOk r (λ life. LifeIs life (entry ∷ []) entry.moment false (no_upkeep 0)) → (old mid new : State) → LoadsEntries (Ok es) old mid → AppendsFirst entry r mid new → CreatesTo text clock n now r old new
-  first_begun es moment entry r none ok is told below faults knows old mid new l a = by r faults knows a
+  pub first_begun : (moment : ℕ) (entry : Entry) (r : Result Life WorldError) → IsOk (config_answer text) → entry ≡ create_at text moment → IsToldBy clock moment → moment < 2 ^ 62 → IfErr r (IsFaultBetween n now) →
+      IfOk r (λ life. LifeIs life (entry ∷ []) entry.moment false (no_upkeep 0)) → (old mid new : State) → IsVacant old mid → AppendsFirst entry r mid new → CreatesTo text clock n now r old new
+  first_begun moment entry r ok is told below faults knows old mid new vacant a = by r faults knows a
     where
-      loaded : IsLoaded [] old mid
-      loaded = subst (λ (xs : List Entry). IsLoaded xs old mid) none l
-
       begin : MayBegin text old mid
-      begin = record { vacant = loaded; config = ok }
+      begin = record { vacant = vacant; config = ok }
 
       by : (r : Result Life WorldError) → IfErr r (IsFaultBetween n now) → IfOk r (λ life. LifeIs life (entry ∷ []) entry.moment false (no_upkeep 0)) → AppendsFirst entry r mid new → CreatesTo text clock n now r old new
       by (Ok life) faults knows a =
@@ -244,7 +269,7 @@ module _ (text : List ℕ) (clock : Option ℕ) (n now : ℕ) where
             begins = (mid, begin, subst (λ (x : Entry). Tries 0 x (Ok tt) mid new) is a);
             knows = subst (λ (x : Entry). LifeIs life (x ∷ []) x.moment false (no_upkeep 0)) is knows;
           }
-      by (Err (errors.Memory e)) faults knows a = HasLanded-trans old mid new (landed_first old mid loaded) a
+      by (Err (errors.Memory e)) faults knows a = HasLanded-trans old mid new (landed_first old mid vacant) a
       by (Err (errors.StoreFault low high)) faults knows a = (inr (mid, begin, (moment, told, subst (λ (x : Entry). Tries 0 x create_failed mid new) is a)), faults.0, faults.1, faults.2)
       by (Err (errors.Corrupt key)) faults knows a = inr (mid, begin, a)
       by (Err errors.IndexExists) faults knows a = inr (mid, begin, a)

@@ -7,7 +7,6 @@ use Rattle.index_config.specs.Answer.{config_answer}
 use Rattle.index_config.specs.declared.config.IndexConfig.{IndexConfig}
 use Rattle.index_config.specs.declared.config_error.ConfigError.{ConfigError}
 use Rattle.meta_journal.specs.Journal.{Tries, create_failed}
-use Rattle.meta_journal.specs.Loading.{IsLoaded}
 use Rattle.meta_journal.specs.Places.{numbered}
 use Rattle.meta_journal.specs.Spelling.{CanSpell}
 use Rattle.meta_journal.specs.declared.entry.Act.TheVariants.{Create}
@@ -23,7 +22,7 @@ use Rattle.index_world.specs.declared.world_error.WorldError.TheVariants as erro
 use Rattle.index_world.specs.Calls.{Call, Fate, Gives, gives, no_memory, faulted, store_fault, store_failed, Unread, not_read, no_index, or_short, asked_clock, asked_moment, entry_of, taken_in}
 use Rattle.index_world.specs.Config.{settings_of}
 use Rattle.index_world.specs.Core.{Core, last_count, with_unread, clock_of, Upkeep, upkeep_of, no_upkeep}
-use Rattle.index_world.specs.Created.{create_at, Leaves, IsToldBy, MayBegin, Begins, MakesFirst, TriesFirst, FirstLanded, CreatesNot, CreatesLife, Uncreated, not_created, index_exists, bad_config, first_making, with_first, created_by, created_from, created, IsUncreated, CreatesAs, CreatesWorld, CreatesNone}
+use Rattle.index_world.specs.Created.{create_at, HasEntries, IsVacant, Leaves, IsToldBy, MayBegin, Begins, MakesFirst, TriesFirst, FirstLanded, CreatesNot, CreatesLife, Uncreated, not_created, index_exists, bad_config, first_making, with_first, created_by, created_from, created, IsUncreated, CreatesAs, CreatesWorld, CreatesNone}
 use Rattle.index_world.specs.Index.{MayEnter}
 use Rattle.index_world.specs.Life.{LifeIs}
 use Rattle.index_world.specs.Releases.{MayFree}
@@ -31,7 +30,10 @@ use Rattle.std.specs.List.{AllByRecursion}
 use Rattle.index_world.specs.Onward.{Reread}
 use Rattle.index_world.specs.Steps.{Counted, noting, quiet, MadeLaw, FailedLaw, ExistsLaw, Ends}
 use Rattle.index_world.specs.World.{IsWorld, IsTimely}
-use Rattle.index_world.proofs.FileCalls.{LoadLaw, UnreadLaw, load_law, load_failed_law, load_short_law}
+use Rattle.index_world.specs.Opened.{Behind}
+use Rattle.index_world.proofs.FileCalls.{LoadLaw, UnreadLaw, load_answer, load_failed_law, load_short_law}
+use Rattle.index_world.proofs.SnapLaws.{landed_index, to_mid, whole, whole_count, whole_law, vacant_law}
+use Rattle.index_world.proofs.SnapOpening.{snap_never_spoilt, snap_never_foreign}
 use Rattle.index_world.proofs.Gates.{kept_by}
 use Rattle.index_world.proofs.Asking.{asked_least}
 use Rattle.index_world.proofs.InCore.{keeps_reread}
@@ -42,7 +44,7 @@ use Rattle.index_world.proofs.Lives.{knows_of}
 use Rattle.index_world.proofs.StoreKeys.{true_is_false}
 use Rattle.index_world.proofs.Transacting.{ends_taken, timely_more}
 use Rattle.index_world.proofs.WholeCalls.{world_asked}
-use Rattle.index_world.proofs.WholeFiles.{load_no_corrupt, load_no_foreign}
+use Rattle.index_world.proofs.WholeFiles.{load_no_corrupt, load_no_foreign, ok_of}
 use Rattle.index_world.proofs.Worlds.{Reread-then, reread-of, onward-same}
 
 -- ---- small facts
