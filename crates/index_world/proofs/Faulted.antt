@@ -1,5 +1,5 @@
 -- Why a store's fault is answered.
-use Rattle.std.proofs.Common.{◌≡◌, ℕ, sym, subst}
+use Rattle.std.proofs.Common.{◌≡◌, ◌≤◌, ℕ, sym, subst, arith}
 use Rattle.meta_journal.specs.Journal.{FaultIs}
 use Rattle.meta_journal.specs.declared.journal_error.JournalError.{JournalError}
 use Rattle.meta_journal.specs.declared.journal_error.JournalError.TheVariants as journal
@@ -32,3 +32,16 @@ of_fault before now number start (journal.Missing key) same h = tt
 pub fault_between : (before now number start : ℕ) (x : JournalError) (error : WorldError) → error ≡ of_journal number start x → start ≡ before → FaultIs before now x →
     IsFaultBetween before now error
 fault_between before now number start x error is same h = subst (IsFaultBetween before now) (sym is) (of_fault before now number start x same h)
+
+-- ... where the journal's call began later
+later_fault : (before mid now number start : ℕ) (x : JournalError) → start ≡ before → before ≤ mid → FaultIs mid now x → IsFaultBetween before now (of_journal number start x)
+later_fault before mid now number start (journal.Memory e) same le h = tt
+later_fault before mid now number start (journal.Adopted entry) same le h = tt
+later_fault before mid now number start (journal.StoreFault low high) same le h = let rose = h.2 in (same, h.1, omega (arith, rose, le))
+later_fault before mid now number start (journal.Foreign key) same le h = tt
+later_fault before mid now number start (journal.Corrupt key) same le h = tt
+later_fault before mid now number start journal.Full same le h = tt
+later_fault before mid now number start (journal.Missing key) same le h = tt
+
+pub fault_later : (before mid now number start : ℕ) (x : JournalError) (error : WorldError) → error ≡ of_journal number start x → start ≡ before → before ≤ mid → FaultIs mid now x → IsFaultBetween before now error
+fault_later before mid now number start x error is same le h = subst (IsFaultBetween before now) (sym is) (later_fault before mid now number start x same le h)

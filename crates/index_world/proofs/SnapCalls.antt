@@ -1,6 +1,6 @@
 -- A create of a snapshot: in the store, and in the words of the core.
 use Rattle.std.proofs.Common.{◌≡◌, ◌⊎◌, ℕ, ◌<◌, ◌≤◌, ◌-◌, List, [], ◌∷◌, ◌++◌, refl, sym, ap, ◌∙◌, subst, inl, inr, Bool, true, false, length, take, arith}
-use Rattle.std.proofs.lemmas.List.{take_all}
+use Rattle.std.proofs.lemmas.List.{take_all, map-append}
 use Rattle.std.specs.FinMap.{get}
 use Rattle.std.specs.Prelude.{Option, Some, None, IsSome, is_some, Result, Ok, Err}
 use Rattle.byte_fields.specs.Causes.{Rose}
@@ -25,7 +25,7 @@ use Rattle.index_world.proofs.Deleting.{LateEntries-carried}
 use Rattle.index_world.proofs.FileCalls.{unread_more}
 use Rattle.index_world.proofs.Indexing.{Object, Stands-late, object-more, keeps-trans, journal_other, index-HasLanded}
 use Rattle.index_world.proofs.JournalCalls.{Counted, Begun, quiet, failing, rose_may, world-begins}
-use Rattle.index_world.proofs.Landing.{files_more, map-append}
+use Rattle.index_world.proofs.Landing.{files_more}
 use Rattle.index_world.proofs.Living.{removes-on, removes-file, live-on}
 use Rattle.index_world.proofs.SnapKeeping.{AreSnaps-late, IsSnap-more, snap_no_meta, snap_no_split}
 use Rattle.index_world.proofs.StoreCalls.{Landed, landed_to, grown-on, none-snoc}
@@ -114,7 +114,7 @@ snaps-by old mid new entries log n bytes answer l is c = by answer c
 snap_grown : (old mid : State) (entries : List Entry) (log : Log) (n : ℕ) (bytes : List ℕ) (l : Landed old mid entries log) → IsSnap entries (snap_key n) bytes → IsSnap l.more (snap_key n) bytes
 snap_grown old mid entries log n bytes l is = by l.grown
   where
-    by : (l.more ≡ entries) ⊎ ((entry : Entry) × (l.more ≡ entries ++ entry ∷ []) × _) → IsSnap l.more (snap_key n) bytes
+    by : (l.more ≡ entries) ⊎ ((entry : Entry) × (l.more ≡ entries ++ entry ∷ []) × NoneAtEnd mid.late l.more) → IsSnap l.more (snap_key n) bytes
     by (inl same) = subst (λ (es : List Entry). IsSnap es (snap_key n) bytes) (sym same) is
     by (inr more) = subst (λ (es : List Entry). IsSnap es (snap_key n) bytes) (sym more.1) (IsSnap-more entries (more.0 ∷ []) (snap_key n) bytes is)
 

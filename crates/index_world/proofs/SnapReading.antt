@@ -1,9 +1,11 @@
 -- What the last snapshot is read as.
 use Rattle.std.proofs.Common.{◌≡◌, ◌⊎◌, ℕ, zero, suc, ◌-◌, ◌^◌, ◌<◌, ◌≤◌, Bool, true, false, List, length, Option, Some, None, Result, Ok, Err, refl, sym, ap, subst, ◌∙◌, inl, inr, arith}
-use Rattle.std.specs.Prelude.{IsSome, is_some, ⊤}
+use Rattle.std.specs.Prelude.{IsSome, is_some, IfOk, IfErr, ⊤}
+use Rattle.std.specs.Result.{IsErrAnd}
+use Rattle.std.specs.declared.alloc.AllocError.{AllocError}
 use Rattle.std.specs.FinMap.{get}
 use Rattle.object_store.proofs.Landings.{HasLanded-refl, HasLanded-trans, Lands-from}
-use Rattle.object_store.specs.Store.{State, HasLanded, LandsThen, Gets}
+use Rattle.object_store.specs.Store.{State, HasLanded, LandsThen, Gets, WhereTold}
 use Rattle.object_store.specs.declared.store.GetError.{GetError}
 use Rattle.object_store.specs.declared.store.GetError.TheVariants as gets
 use Rattle.object_store.specs.declared.store.Piece.{Piece}
@@ -32,7 +34,8 @@ use Rattle.meta_store.specs.declared.restoring.RestoreError.{RestoreError}
 use Rattle.meta_store.specs.declared.restoring.RestoreError.TheVariants as restores
 use Rattle.index_world.specs.Opened.{BeginsAt, IsRestored, IsLastSnap, IsSpoiltSnap}
 use Rattle.index_world.specs.Configuration.{HasConfig}
-use Rattle.index_world.specs.Starting.{IsBeginning, IsLastKey, ListsSnaps, MeetsNone, ReadsSnap, RestoresTo, BeginsTo, BeginsNot, of_decode, of_restore}
+use Rattle.index_world.specs.Taking.{IsFaultBetween}
+use Rattle.index_world.specs.Starting.{IsBeginning, IsOfBegin, IsLastKey, ListsSnaps, MeetsNone, ReadsSnap, RestoresTo, BeginsTo, BeginsNot, of_decode, of_restore}
 use Rattle.index_world.specs.declared.starting.Beginning.{Beginning}
 use Rattle.index_world.specs.declared.world_error.WorldError.{WorldError}
 use Rattle.index_world.specs.declared.world_error.WorldError.TheVariants as errors
@@ -133,8 +136,11 @@ pub absent_read : (number : ℕ) (key : List ℕ) → key ≡ snap_key number �
 absent_read number key is o s h =
     (landed_to o h.0 s h.1 h.2.0, ap (λ (t : State). get t.objects (snap_key number)) h.2.0 ∙ ap (λ (k : List ℕ). get h.0.objects k) (sym is) ∙ finds_absent (get h.0.objects key) (2 ^ 64 - 1) h.2.1)
 
-pub failed_read : (number : ℕ) (key : List ℕ) (before after : ℕ) → (o s : State) → LandsThen (Gets key 0 (2 ^ 64 - 1) (Err gets.Failed)) o s → ReadsSnap number (Err (errors.StoreFault before after)) o s
-failed_read number key before after o s h = landed_to o h.0 s h.1 h.2
+pub failed_read : (number : ℕ) (key : List ℕ) (e : GetError) (before after : ℕ) → (o s : State) → LandsThen (Gets key 0 (2 ^ 64 - 1) (Err e)) o s → ReadsSnap number (Err (errors.StoreFault before after)) o s
+failed_read number key e before after o s h = landed_to o h.0 s h.1 h.2.0
+
+pub short_read : (number : ℕ) (key : List ℕ) (e : GetError) (a : AllocError) → (o s : State) → LandsThen (Gets key 0 (2 ^ 64 - 1) (Err e)) o s → ReadsSnap number (Err (errors.Memory a)) o s
+short_read number key e a o s h = landed_to o h.0 s h.1 h.2.0
 
 -- ---- the whole
 
@@ -195,3 +201,46 @@ listed_not (errors.Expired p n) o s h = h
 listed_not errors.NoIndex o s h = h
 listed_not errors.IndexExists o s h = h
 listed_not (errors.BadConfig bad) o s h = h
+
+-- ---- the answers
+
+-- an error that is handed on
+pub handed_error : {T : Type 0} (r : Result T WorldError) (x : WorldError) (P : Result T WorldError → Type 0) → IsErrAnd r (λ e. e ≡ x) → P (Err x) → P r
+handed_error (Ok v) x P h p = absurd h
+handed_error (Err e) x P h p = subst (λ (y : WorldError). P (Err y)) (sym h) p
+
+pub begun_at : (told told' : Option State) (r r' : Result Beginning WorldError) → r ≡ r' → WhereTold told told' (BeginsTo r) → WhereTold told told' (BeginsTo r')
+begun_at told told' r r' e w = subst (λ (x : Result Beginning WorldError). WhereTold told told' (BeginsTo x)) e w
+
+pub fault_at : {T : Type 0} (r : Result T WorldError) (x : WorldError) (P : WorldError → Type 0) → r ≡ Err x → IfErr r P → P x
+fault_at (Ok v) x P e h = cc e
+fault_at (Err y) x P e h = let same : y ≡ x = cc e in subst P same h
+
+pub error_as : {T : Type 0} (r : Result T WorldError) (x : WorldError) → IsErrAnd r (λ e. e ≡ x) → Err x ≡ r
+error_as (Ok v) x h = absurd h
+error_as (Err e) x h = ap (λ (y : WorldError). Err y) (sym h)
+
+pub some_restored : (number : ℕ) (bytes : List ℕ) (r : Result Kept WorldError) → RestoresTo number bytes r → IfOk r (λ kept. (bytes : List ℕ) × RestoresTo number bytes (Ok kept))
+some_restored number bytes (Ok kept) h = (bytes, h)
+some_restored number bytes (Err error) h = tt
+
+restored_error : (number : ℕ) (bytes : List ℕ) (x : WorldError) → RestoresTo number bytes (Err x) → (before now : ℕ) → IsOfBegin x × IsFaultBetween before now x
+restored_error number bytes (errors.Corrupt key) h before now = (tt, tt)
+restored_error number bytes (errors.Memory e) h before now = (tt, tt)
+restored_error number bytes (errors.StoreFault b a) h before now = absurd h
+restored_error number bytes (errors.Missing key) h before now = absurd h
+restored_error number bytes (errors.Foreign key) h before now = absurd h
+restored_error number bytes (errors.Refused refusal) h before now = absurd h
+restored_error number bytes errors.Full h before now = absurd h
+restored_error number bytes (errors.Expired p n) h before now = absurd h
+restored_error number bytes errors.NoIndex h before now = absurd h
+restored_error number bytes errors.IndexExists h before now = absurd h
+restored_error number bytes (errors.BadConfig bad) h before now = absurd h
+
+pub restored_fault : (number : ℕ) (bytes : List ℕ) (r : Result Kept WorldError) (before now : ℕ) → RestoresTo number bytes r → IfErr r (IsFaultBetween before now)
+restored_fault number bytes (Ok kept) before now h = tt
+restored_fault number bytes (Err x) before now h = (restored_error number bytes x h before now).1
+
+pub restored_kind : (number : ℕ) (bytes : List ℕ) (r : Result Kept WorldError) → RestoresTo number bytes r → IfErr r IsOfBegin
+restored_kind number bytes (Ok kept) h = tt
+restored_kind number bytes (Err x) h = (restored_error number bytes x h 0 0).0

@@ -21,7 +21,7 @@ use crate::doom_list::Doomed;
 use crate::life::Life;
 use crate::starting::begin;
 use crate::steady::SteadyClock;
-use crate::taking::{prepare, world_error};
+use crate::taking::{is_vacant, prepare, world_error};
 use crate::world_error::WorldError;
 use byte_fields::Bytes;
 use meta_journal::{Act, Entry, Journal, JournalError};
@@ -151,7 +151,7 @@ pub fn create<S: ObjectStore, C: SteadyClock>(
     mem::drop(beginning);
     match Journal::load(alloc, store, number) {
         Ok((journal, entries)) => {
-            let is_first = number == 0 && entries.is_empty();
+            let is_first = is_vacant(number, &entries);
             mem::drop(entries);
             if !is_first {
                 mem::drop(journal);

@@ -6,14 +6,13 @@ ghost use Rattle.meta_journal.specs.Snapshots.{CanSpellParts};
 ghost use Rattle.meta_journal.specs.SnapshotReading.{parts_in};
 ghost use Rattle.object_store.specs.Store.{WhereTold};
 ghost use Rattle.index_world.specs.Configuration.{HasConfig};
-ghost use Rattle.index_world.specs.Starting.{AreSnapKeys, BeginsTo, IsBeginning, IsOfBegin, IsSnapPage, ListsSnaps, PagesSnaps, ReadsSnap, RestoresTo, next_of, of_decode, of_restore};
+ghost use Rattle.index_world.specs.Starting.{AreSnapKeys, BeginsTo, IsBeginning, IsOfBegin, IsSnapPage, ListsSnaps, PagesSnaps, ReadsSnap, RestoresTo, next_of, of_decode, of_restore, snap_behind};
 ghost use Rattle.index_world.specs.Taking.{IsFaultBetween};
 
-use crate::taking::{get_error, list_error};
 use crate::world_error::WorldError;
 use meta_journal::{EntryError, StateParts, decode_state, snap_key, snap_number, snap_prefix};
 use meta_store::{Meta, RestoreError};
-use object_store::{Key, ObjectStore};
+use object_store::{GetError, Key, ListError, ObjectStore};
 use std::alloc::Global;
 use std::mem;
 
@@ -70,6 +69,14 @@ fn judge(keys: &[Key], last: Option<u64>) -> Result<Option<u64>, Key>
     Ok(end)
 }
 
+// The key of the last snapshot.
+fn last_key(last: Option<u64>) -> Option<Key>
+    ensures { result ≡ snap_behind last }
+{
+    let number = last?;
+    Some(snap_key(number))
+}
+
 // The snapshots behind another: how far one page of a listing leads.
 fn list_page<S: ObjectStore>(
     alloc: Global,
@@ -86,7 +93,7 @@ fn list_page<S: ObjectStore>(
     ensures kinds { IfErr result IsOfBegin }
 {
     let prefix = snap_prefix();
-    let behind = last.map(snap_key);
+    let behind = last_key(last);
     match store.list(alloc, &prefix, behind.as_ref(), PAGE) {
         Ok(keys) => {
             let is_last = keys.len() < PAGE as usize;
@@ -95,7 +102,11 @@ fn list_page<S: ObjectStore>(
                 Err(key) => Err(WorldError::Foreign { key }),
             }
         }
-        Err(error) => Err(list_error(error, before, store.faults())),
+        Err(ListError::Memory(refused)) => Err(WorldError::Memory(refused)),
+        Err(ListError::Failed) => Err(WorldError::StoreFault {
+            before,
+            after: store.faults(),
+        }),
     }
 }
 
@@ -190,7 +201,12 @@ fn read_snapshot<S: ObjectStore>(
     let key = snap_key(number);
     match store.get(alloc, &key, 0, u64::MAX) {
         Ok(piece) => restored(alloc, number, piece.bytes.as_slice()),
-        Err(error) => Err(get_error(error, key, before, store.faults())),
+        Err(GetError::Absent) => Err(WorldError::Missing { key }),
+        Err(GetError::Failed) => Err(WorldError::StoreFault {
+            before,
+            after: store.faults(),
+        }),
+        Err(GetError::Memory(refused)) => Err(WorldError::Memory(refused)),
     }
 }
 
@@ -208,11 +224,15 @@ pub fn begin<S: ObjectStore>(
     ensures later { S.fault_count store.old ≤ S.fault_count store.new }
     ensures kinds { IfErr result IsOfBegin }
 {
-    match last_number(alloc, store, before)? {
-        Some(number) => Ok(Beginning {
-            snapped: number,
-            meta: read_snapshot(alloc, store, number, before)?,
-        }),
+    let last = last_number(alloc, store, before)?;
+    match last {
+        Some(number) => {
+            let meta = read_snapshot(alloc, store, number, before)?;
+            Ok(Beginning {
+                snapped: number,
+                meta,
+            })
+        }
         None => Ok(Beginning {
             snapped: 0,
             meta: Meta::vacant(alloc),

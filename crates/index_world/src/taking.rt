@@ -1,6 +1,6 @@
 //! Taking entries in.
 
-ghost use Rattle.std.specs.Prelude.{◌≡◌, ◌<◌, ◌≤◌, ◌+◌, ◌^◌, [], OnOk, IfOk, IfErr, IsOk, IsSome, None, Some, length, vec_len, vec_capacity};
+ghost use Rattle.std.specs.Prelude.{◌≡◌, ◌<◌, ◌≤◌, ◌+◌, ◌^◌, [], OnOk, IfOk, IfErr, IsOk, IsSome, IsTrue, IsFalse, None, Some, length, vec_len, vec_capacity};
 ghost use Rattle.std.specs.List.{AllByRecursion};
 ghost use Rattle.index_world.specs.Index.{max_entries};
 ghost use Rattle.meta_journal.specs.declared.place.JournalPlace.TheVariants.{Sure};
@@ -28,7 +28,7 @@ use crate::marking::{Marking, reserve};
 use crate::starting::{Beginning, begin};
 use crate::world_error::WorldError;
 use clock_time::LAST_MOMENT;
-use meta_journal::{Entry, Journal, JournalError, MAX_ENTRIES, meta_key};
+use meta_journal::{Entries, Entry, Journal, JournalError, MAX_ENTRIES, meta_key};
 use meta_store::{Meta, Reading};
 use object_store::{CreateError, GetError, Key, ListError, ObjectStore};
 use std::alloc::{AllocError, Global};
@@ -264,6 +264,14 @@ fn take_one(meta: &mut Meta, entry: Entry, reading: Reading) -> Result<u64, Worl
     }
 }
 
+/// Whether there is no snapshot, of so many entries, and no entry behind it.
+pub fn is_vacant(number: u64, entries: &Entries) -> bool
+    ensures none { IsTrue result → (number ≡ 0) × (entries.now ≡ []) }
+    ensures some { IsFalse result → 0 < number + length entries.now }
+{
+    number == 0 && entries.is_empty()
+}
+
 /// Opens the index of a store: with the last snapshot, and the entries behind it.
 pub fn open<S: ObjectStore>(alloc: Global, store: &mut S) -> Result<Life, WorldError>
     ensures sure { IfOk result (λ life. life.journal.place ≡ Sure) }
@@ -274,15 +282,17 @@ pub fn open<S: ObjectStore>(alloc: Global, store: &mut S) -> Result<Life, WorldE
         IsWorld old core log → core.clock < 2 ^ 62 → Opening core log result (S.told store.new) (S.fault_count store.new) }
 {
     let before = store.faults();
-    let beginning = begin(alloc, store, before)?;
+    let begun = begin(alloc, store, before);
+    // The count of a store has its range.
+    let _begun_count = store.faults();
+    let beginning = begun?;
     let Beginning { snapped, meta } = beginning;
     let number = meta.revision();
     let answer = Journal::load(alloc, store, number);
-    // The count of a store has its range.
     let _count = store.faults();
     match answer {
         Ok((journal, entries)) => {
-            if number == 0 && entries.is_empty() {
+            if is_vacant(number, &entries) {
                 mem::drop(entries);
                 mem::drop(journal);
                 mem::drop(meta);
