@@ -29,7 +29,7 @@ use Rattle.index_world.specs.Created.{create_at, IsVacant, IsToldBy, MayBegin, C
 use Rattle.index_world.specs.Core.{no_upkeep}
 use Rattle.index_world.specs.Life.{LifeIs}
 use Rattle.index_world.specs.Opened.{BeginsAt}
-use Rattle.index_world.specs.Starting.{BeginsNot}
+use Rattle.index_world.specs.Starting.{BeginsNot, IsOfBegin}
 use Rattle.index_world.specs.Taking.{IsFaultBetween, IsUnprepared, IsWant, of_journal}
 use Rattle.index_world.specs.declared.life.Life.{Life}
 use Rattle.index_world.specs.declared.world_error.WorldError.{WorldError}
@@ -192,6 +192,20 @@ bad_no_fault before now text errors.IndexExists bad = absurd bad
 pub begun_kind : (text : List ℕ) (r : Result Life WorldError) → IsOk (config_answer text) → IfErr r (λ error. (other : List ℕ) → IsOfCreate other error) → MatchResult r (λ life. IsOk (config_answer text)) (IsOfCreate text)
 begun_kind text (Ok life) ok kinds = ok
 begun_kind text (Err error) ok kinds = kinds text
+
+-- opening didn't begin
+pub begin_kind : (text : List ℕ) (error : WorldError) → IsOfBegin error → IsOfCreate text error
+begin_kind text (errors.Memory e) h = tt
+begin_kind text (errors.StoreFault low high) h = tt
+begin_kind text (errors.Missing key) h = tt
+begin_kind text (errors.Corrupt key) h = tt
+begin_kind text (errors.Foreign key) h = tt
+begin_kind text (errors.Refused refusal) h = absurd h
+begin_kind text errors.Full h = absurd h
+begin_kind text (errors.Expired planned_at reached) h = absurd h
+begin_kind text errors.NoIndex h = absurd h
+begin_kind text errors.IndexExists h = absurd h
+begin_kind text (errors.BadConfig bad) h = absurd h
 
 -- ---- the whole
 
