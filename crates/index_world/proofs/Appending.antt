@@ -131,6 +131,7 @@ pub owned_on : (own : Own) (log : Log) (core after : Core) (more : List Entry) â
 owned_on (owns.Stage delta facts) log core after more grown legal k may = tt
 owned_on (owns.Task ask) log core after more grown legal k may = tt
 owned_on owns.MarkStale log core after more grown legal k may = tt
+owned_on owns.Retire log core after more grown legal k may = tt
 owned_on owns.Remove log core after more grown legal k may = tt
 owned_on (owns.Replace plan number upto) log core after more grown legal k may = replaceable_on (IsOther None) core after more grown legal k log number (numbers_of plan.now.rows) upto may
 owned_on (owns.Raise number upto) log core after more grown legal k may = raisable_on (IsOther None) core after more grown legal k number upto may

@@ -8,7 +8,7 @@ use Rattle.byte_fields.specs.Causes.{Rose}
 use Rattle.meta_journal.specs.Journal.{Appends, FaultIs, IsTaken, place_refused}
 use Rattle.meta_journal.specs.Spelling.{CanSpell, CanSpellAct}
 use Rattle.meta_journal.specs.declared.entry.Act.{Act}
-use Rattle.meta_journal.specs.declared.entry.Act.TheVariants.{Fence, MarkStaged, Remove}
+use Rattle.meta_journal.specs.declared.entry.Act.TheVariants.{Fence, MarkStaged, Remove, Retire}
 use Rattle.meta_journal.specs.declared.entry.Entry.{Entry}
 use Rattle.meta_journal.specs.declared.journal_error.JournalError.{JournalError}
 use Rattle.meta_journal.specs.declared.journal_error.JournalError.TheVariants as journal
@@ -41,8 +41,8 @@ use Rattle.index_world.specs.Core.{Core, IsStoredIn, IsUploadedIn, is_in, journa
 use Rattle.index_world.specs.Gate.{IsUnmade}
 use Rattle.index_world.specs.Index.{MayEnter, HasFile, HasStaged, IsAllowed, IsStored, IsGivenUp, max_entries}
 use Rattle.index_world.specs.Life.{CreatesBy, Creating, LifeIs, StandsBy}
-use Rattle.index_world.specs.Collecting.{Offer, doomed_rows, marks_offer, removal_of}
-use Rattle.index_world.specs.Owning.{act_in, offer_in, offer_of, own_offer, stale_at, MayOwn}
+use Rattle.index_world.specs.Collecting.{Offer, doomed_rows, marks_offer, removal_of, retire_of}
+use Rattle.index_world.specs.Owning.{act_in, offer_in, offer_of, old_at, own_offer, stale_at, MayOwn}
 use Rattle.index_world.specs.declared.own.Offer as code
 use Rattle.index_world.specs.Releases.{IsDoomed, MayFree}
 use Rattle.index_world.specs.declared.own.Outcome.TheVariants as outcomes
@@ -83,6 +83,10 @@ removes_act : (numbers : List ℕ) (offer : Offer ℕ) → removal_of numbers �
 removes_act [] offer e = absurd (no_offer offer e)
 removes_act (n ∷ numbers) offer e = let same : ◌≡◌ {A = Option (Offer ℕ)} (Some (record { act = Remove (n ∷ numbers); answer = length (n ∷ numbers) })) (Some offer) = e in ap (λ (o : Option (Offer ℕ)). act_or o) (sym same)
 
+retires_act : (numbers : List ℕ) (offer : Offer ℕ) → retire_of numbers ≡ Some offer → offer.act ≡ Retire numbers
+retires_act [] offer e = absurd (no_offer offer e)
+retires_act (n ∷ numbers) offer e = let same : ◌≡◌ {A = Option (Offer ℕ)} (Some (record { act = Retire (n ∷ numbers); answer = length (n ∷ numbers) })) (Some offer) = e in ap (λ (o : Option (Offer ℕ)). act_or o) (sym same)
+
 pub offer_act : (own : Own) (moment : ℕ) (doomed : List ℕ) (state : meta.State) (offer : Offer ℕ) → offer_in own moment doomed state ≡ Some offer → offer.act ≡ act_in own moment doomed state
 offer_act (owns.Stage delta facts) moment doomed state offer e = ap (λ (o : Option (Offer ℕ)). act_or o) (sym e)
 offer_act (owns.Publish number) moment doomed state offer e = ap (λ (o : Option (Offer ℕ)). act_or o) (sym e)
@@ -91,6 +95,7 @@ offer_act (owns.Raise number upto) moment doomed state offer e = ap (λ (o : Opt
 offer_act (owns.Task ask) moment doomed state offer e = ap (λ (o : Option (Offer ℕ)). act_or o) (sym e)
 offer_act owns.MarkStale moment doomed state offer e = marks_act (stale_at moment state) offer e
 offer_act owns.Remove moment doomed state offer e = removes_act (doomed_rows doomed state.rows) offer e
+offer_act owns.Retire moment doomed state offer e = retires_act (old_at moment state) offer e
 
 -- what the code offers
 pub code_offered : (x : Option code.Offer) (f : code.Offer) (target : Option (Offer ℕ)) → x ≡ Some f → offer_of x ≡ target → target ≡ Some (record { act = f.act; answer = f.count })
@@ -129,6 +134,7 @@ doomed_alike (owns.Replace plan number upto) moment a b state h = refl
 doomed_alike (owns.Raise number upto) moment a b state h = refl
 doomed_alike (owns.Task ask) moment a b state h = refl
 doomed_alike owns.MarkStale moment a b state h = refl
+doomed_alike owns.Retire moment a b state h = refl
 doomed_alike owns.Remove moment a b state h = ap removal_of (rows_alike a b state.rows h)
 
 pub own_alike : (own : Own) (life : Life) (core : Core) (doubt : Bool) → LifeIs life core.history core.moment doubt (upkeep_of core) → offer_in own life.moment life.doomed.numbers.items life.meta.state ≡ own_offer own core
@@ -144,6 +150,7 @@ own_numbers (owns.Replace plan number upto) moment doomed state = tt
 own_numbers (owns.Raise number upto) moment doomed state = tt
 own_numbers (owns.Task ask) moment doomed state = tt
 own_numbers owns.MarkStale moment doomed state = tt
+own_numbers owns.Retire moment doomed state = tt
 own_numbers owns.Remove moment doomed state = tt
 
 -- the numbers that it removes are doomed ones
@@ -179,6 +186,7 @@ releases_own (owns.Replace plan number upto) core t config is numbers e = cc e
 releases_own (owns.Raise number upto) core t config is numbers e = cc e
 releases_own (owns.Task ask) core t config is numbers e = cc e
 releases_own owns.MarkStale core t config is numbers e = cc e
+releases_own owns.Retire core t config is numbers e = cc e
 releases_own owns.Remove core t config is numbers e =
     doomed-removes config.deletion_grace core (entry_of (Remove (doomed_rows core.doomed (rows (history core.history)))) core) (omega arith)
     (λ numbers e.
@@ -205,6 +213,7 @@ own_act own core = act_in own core.moment core.doomed (state_of reads (history c
 pub own_file : (kept : State) (core : Core) (log : Log) (own : Own) → IsWorld kept core log → MayOwn own log core → core.standing ≡ None → IsAllowed core.history (entry_of (own_act own core) core) →
     HasFile kept core.history log (own_act own core)
 own_file kept core log owns.MarkStale w may none allowed = tt
+own_file kept core log owns.Retire w may none allowed = tt
 own_file kept core log owns.Remove w may none allowed = tt
 own_file kept core log (owns.Stage delta facts) w may none allowed = tt
 own_file kept core log (owns.Task ask) w may none allowed = tt

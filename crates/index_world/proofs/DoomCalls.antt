@@ -69,7 +69,7 @@ pub doom_short : (w w' : Keeping) (core : Core) (log : Log) (r : Result (Option 
 doom_short w w' core log (Ok x) Is h want same s = absurd h
 doom_short w w' core log (Err error) Is h want same s =
     record {
-      fate = record { unasked = true; first = calm_call; second = calm_call; third = calm_call };
+      fate = record { unasked = true; snaps = calm_call; first = calm_call; second = calm_call; third = calm_call };
       answer = Err no_memory;
       after = core;
       did = refl;

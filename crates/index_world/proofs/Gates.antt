@@ -218,7 +218,7 @@ module _ {had : ℕ} (told told' : Option State) (n now : ℕ) (clock : Option �
   appended_whole Q given r x says =
       let c : Counted core now = record { later = x.counted.later; within = x.counted.within } in
       record {
-        fate = record { unasked = false; first = x.did.first; second = x.did.second; third = x.did.third };
+        fate = record { unasked = false; snaps = calm_call; first = x.did.first; second = x.did.second; third = x.did.third };
         answer = x.answer x.did.after;
         after = x.did.after;
         did = x.did.did;

@@ -4,7 +4,7 @@ use Rattle.std.specs.Prelude.{IfErr, OnOk}
 use Rattle.std.proofs.Math.Nat.{le_refl}
 use Rattle.meta_journal.specs.Places.{HasEntry}
 use Rattle.meta_journal.specs.declared.entry.Act.{Act}
-use Rattle.meta_journal.specs.declared.entry.Act.TheVariants.{MarkStaged, Remove}
+use Rattle.meta_journal.specs.declared.entry.Act.TheVariants.{MarkStaged, Remove, Retire}
 use Rattle.meta_journal.specs.declared.place.JournalPlace.TheVariants.{Sure}
 use Rattle.meta_store.specs.History.{at}
 use Rattle.meta_store.specs.State as meta
@@ -12,14 +12,14 @@ use Rattle.meta_store.specs.declared.config.Config.{Config}
 use Rattle.object_store.proofs.Told.{told_map}
 use Rattle.object_store.specs.Store.{State, WhereTold}
 use Rattle.split_states.specs.Due.{stale_rows}
-use Rattle.index_world.specs.Answering.{AppendedOwn, AppendsNot, SaysRows, Tells, answer_in, behind, doomed_in, stale_in}
+use Rattle.index_world.specs.Answering.{AppendedOwn, AppendsNot, SaysRows, Tells, answer_in, behind, doomed_in, old_in, stale_in}
 use Rattle.index_world.specs.Calls.{Unmade}
-use Rattle.index_world.specs.Collecting.{Offer, doomed_rows, marks_offer, removal_of}
+use Rattle.index_world.specs.Collecting.{Offer, doomed_rows, marks_offer, old_rows, removal_of, retire_of}
 use Rattle.index_world.specs.Configuration.{config_or, index_of}
 use Rattle.index_world.specs.Core.{Core}
 use Rattle.index_world.specs.Gate.{IsGiven, IsUnmade, SaysWith}
 use Rattle.index_world.specs.Life.{Appends, MadeOf, OwnDone}
-use Rattle.index_world.specs.Owning.{act_in, offer_in, stale_at}
+use Rattle.index_world.specs.Owning.{act_in, offer_in, old_at, stale_at}
 use Rattle.index_world.specs.Taking.{IsFaultBetween}
 use Rattle.index_world.specs.Unsure.{is_unsure}
 use Rattle.index_world.specs.World.{Keeping}
@@ -69,6 +69,10 @@ no_removal : (numbers : List ℕ) → removal_of numbers ≡ None → numbers �
 no_removal [] e = refl
 no_removal (n ∷ numbers) e = let bad : ◌≡◌ {A = Option (Offer ℕ)} (Some (record { act = Remove (n ∷ numbers); answer = length (n ∷ numbers) })) None = e in cc bad
 
+no_retire : (numbers : List ℕ) → retire_of numbers ≡ None → numbers ≡ []
+no_retire [] e = refl
+no_retire (n ∷ numbers) e = let bad : ◌≡◌ {A = Option (Offer ℕ)} (Some (record { act = Retire (n ∷ numbers); answer = length (n ∷ numbers) })) None = e in cc bad
+
 some_marks : (numbers : List ℕ) (act : Act) (rows : ℕ) → marks_offer numbers ≡ Some (record { act = act; answer = rows }) → (0 < rows) × (rows ≡ length numbers)
 some_marks [] act rows e = let bad : ◌≡◌ {A = Option (Offer ℕ)} None (Some (record { act = act; answer = rows })) = e in cc bad
 some_marks (n ∷ numbers) act rows e =
@@ -82,6 +86,14 @@ some_removal [] act rows e = let bad : ◌≡◌ {A = Option (Offer ℕ)} None (
 some_removal (n ∷ numbers) act rows e =
     let same : ◌≡◌ {A = Option (Offer ℕ)} (Some (record { act = Remove (n ∷ numbers); answer = length (n ∷ numbers) })) (Some (record { act = act; answer = rows })) = e in
     let offers : ◌≡◌ {A = Offer ℕ} (record { act = Remove (n ∷ numbers); answer = length (n ∷ numbers) }) (record { act = act; answer = rows }) = cc same in
+    let is : length (n ∷ numbers) ≡ rows = ap (λ (o : Offer ℕ). o.answer) offers in
+    (omega (arith, is), sym is)
+
+some_retire : (numbers : List ℕ) (act : Act) (rows : ℕ) → retire_of numbers ≡ Some (record { act = act; answer = rows }) → (0 < rows) × (rows ≡ length numbers)
+some_retire [] act rows e = let bad : ◌≡◌ {A = Option (Offer ℕ)} None (Some (record { act = act; answer = rows })) = e in cc bad
+some_retire (n ∷ numbers) act rows e =
+    let same : ◌≡◌ {A = Option (Offer ℕ)} (Some (record { act = Retire (n ∷ numbers); answer = length (n ∷ numbers) })) (Some (record { act = act; answer = rows })) = e in
+    let offers : ◌≡◌ {A = Offer ℕ} (record { act = Retire (n ∷ numbers); answer = length (n ∷ numbers) }) (record { act = act; answer = rows }) = cc same in
     let is : length (n ∷ numbers) ≡ rows = ap (λ (o : Offer ℕ). o.answer) offers in
     (omega (arith, is), sym is)
 
@@ -112,6 +124,32 @@ stale_says had told n clock life frozen (Ok rows) sure now (inr a) =
     )
 stale_says had told n clock life frozen (Err error) sure now h =
     not_alike error (act_in owns.MarkStale life.moment life.doomed.numbers.items) (λ state. MarkStaged (stale_in (kept_by had told n clock life frozen) state)) life.moment life.journal.next life.meta.state now refl h
+
+-- so does a retiring
+retiring_config : (moment : ℕ) (before state : meta.State) → state ≡ behind before (at moment (Retire (old_at moment before))) → state.config ≡ before.config
+retiring_config moment before state is = ap (λ (s : meta.State). s.config) is
+
+pub old_says : (had : ℕ) (told : Option State) (n : ℕ) (clock : Option ℕ) (life : Life) (frozen : Bool) (r : Result ℕ WorldError) → OnOk r (life.journal.place ≡ Sure) → (now : State) → Appends owns.Retire r life now →
+    SaysRows (old_in (kept_by had told n clock life frozen)) Retire r (kept_by had told n clock life frozen) now
+old_says had told n clock life frozen (Ok rows) sure now (inl none) = (inl (none.0, no_retire (old_at life.moment life.meta.state) none.1), ap is_unsure sure)
+old_says had told n clock life frozen (Ok rows) sure now (inr a) =
+    let f = some_retire (old_at life.moment a.is.before) (act_in owns.Retire life.moment life.doomed.numbers.items a.is.before) rows a.offered in
+    let config = retiring_config life.moment a.is.before life.meta.state a.is.state_is in
+    let same : old_at life.moment a.is.before ≡ old_in (kept_by had told n clock life frozen) a.is.before =
+    ap (λ (c : Option Config). old_rows life.moment (config_or (index_of c)).retention a.is.before.rows) (sym config) in (
+      inr (record {
+        before = a.is.before;
+        number = a.is.number;
+        next_is = a.is.next_is;
+        some = f.0;
+        count_is = f.1 ∙ ap length same;
+        stands = subst (λ (ns : List ℕ). HasEntry now a.is.number (at life.moment (Retire ns))) same a.is.stands;
+        state_is = a.is.state_is ∙ ap (λ (ns : List ℕ). behind a.is.before (at life.moment (Retire ns))) same;
+      }),
+      ap is_unsure sure,
+    )
+old_says had told n clock life frozen (Err error) sure now h =
+    not_alike error (act_in owns.Retire life.moment life.doomed.numbers.items) (λ state. Retire (old_in (kept_by had told n clock life frozen) state)) life.moment life.journal.next life.meta.state now refl h
 
 pub removal_says : (had : ℕ) (told : Option State) (n : ℕ) (clock : Option ℕ) (life : Life) (frozen : Bool) (r : Result ℕ WorldError) → OnOk r (life.journal.place ≡ Sure) → (now : State) → Appends owns.Remove r life now →
     SaysRows (doomed_in (kept_by had told n clock life frozen)) Remove r (kept_by had told n clock life frozen) now

@@ -105,7 +105,7 @@ went_on_asked old new core after log more doubt now w c o e =
 abbrev pub whole_asked : (kept : State) (core : Core) (log : Log) → IsWorld kept core log → 0 < length core.history → IsTimely core → Whole asked None kept core (asked_clock core) log (λ after. Ok tt) [] core.unsure core.store_faults
 whole_asked kept core log w some t =
     record {
-      fate = record { unasked = false; first = calm_get; second = calm_get; third = calm_get };
+      fate = record { unasked = false; snaps = calm_get; first = calm_get; second = calm_get; third = calm_get };
       after = asked_clock core;
       did = refl;
       goes_on = goes_asked (IsOther None) core;
@@ -186,7 +186,7 @@ looks_unsettled old new core log trouble now t doubt u =
     }
 
 abbrev with_copy : Call → Call → Bool → Fate
-with_copy first second short = record { unasked = false; first = first; second = second; third = quiet [] 0 short }
+with_copy first second short = record { unasked = false; snaps = calm_get; first = first; second = second; third = quiet [] 0 short }
 
 abbrev pub whole_looked : (old new : State) (core : Core) (log : Log) (answer : Core → Result ⊤ Trouble) (more : List Entry) (doubt : Bool) (now : ℕ) →
     IsWorld old core log → 0 < length core.history → Counted core now → Looks old new core log answer more doubt now → Whole looked None new core core log answer more doubt now

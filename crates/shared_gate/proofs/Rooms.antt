@@ -16,7 +16,7 @@ abbrev short_call : Call
 short_call = record calm_call { short = true }
 
 abbrev no_room : Fate
-no_room = record { unasked = true; first = short_call; second = calm_call; third = calm_call }
+no_room = record { unasked = true; snaps = calm_call; first = short_call; second = calm_call; third = calm_call }
 
 begun_short : (core : Core) → core.store_faults ≤ last_count → begun short_call core ≡ core
 begun_short core within = ap (λ (n : ℕ). record core { store_faults = n }) (still_counted core.store_faults core.store_faults refl within)
