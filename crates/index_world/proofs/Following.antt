@@ -13,14 +13,16 @@ use Rattle.meta_journal.specs.declared.journal_error.JournalError.TheVariants as
 use Rattle.meta_store.specs.State as meta
 use Rattle.object_store.proofs.Landings.{Lands-from}
 use Rattle.object_store.proofs.Told.{told_map}
-use Rattle.object_store.specs.Store.{Creates, HasLanded, State, WhereTold, with_object}
+use Rattle.object_store.specs.Store.{Creates, HasLanded, LandsThen, State, WhereTold, with_object}
 use Rattle.object_store.specs.declared.store.CreateError.{CreateError}
 use Rattle.object_store.specs.declared.store.CreateError.TheVariants as creates
 use Rattle.index_world.specs.Answering.{answer_in, behind, Followed, Follows, KeepsEntries, Takes}
 use Rattle.index_world.specs.Life.{TookIn, TookNone}
 use Rattle.index_world.specs.World.{Keeping}
 use Rattle.index_world.specs.declared.life.Life.{Life}
+use Rattle.index_world.specs.Snapped.{Snaps}
 use Rattle.index_world.specs.declared.world_error.WorldError.{WorldError}
+use Rattle.index_world.specs.declared.world_error.WorldError.TheVariants as errors
 use Rattle.index_world.proofs.Answering.{tried_stands}
 use Rattle.index_world.proofs.StoreKeys.{kept_at}
 
@@ -69,6 +71,31 @@ appends_keep n e (Err (journal.Missing key)) old new h = absurd h
 -- an append keeps the entries
 pub append_keeps : (a b : Option State) (n : ℕ) (e : Entry) (r : Result ℕ JournalError) → WhereTold a b (Appends n e r) → WhereTold a b KeepsEntries
 append_keeps a b n e r w = told_map a b (λ o s h. entries_kept o s (appends_keep n e r o s h)) w
+
+-- so does the create of a snapshot
+tried_snap_keeps : (key content : List ℕ) (r : Result ⊤ CreateError) (old new : State) → LandsThen (Creates key content r) old new → Keeps old new
+tried_snap_keeps key content r old new t = λ k bytes stands. keeps_created key content r t.0 new t.2 k bytes (keeps_landed old t.0 t.1 k bytes stands)
+
+snap_keeps_by : (life : Life) (r : Result (Option ℕ) WorldError) (old new : State) → Snaps life r old new → Keeps old new
+snap_keeps_by life (Ok None) old new h = keeps_same old new h.1
+snap_keeps_by life (Ok (Some revision)) old new h = elim h.2.1 [
+  | inl t ↦ tried_snap_keeps _ _ (Ok tt) old new t
+  | inr t ↦ tried_snap_keeps _ _ (Err creates.Exists) old new t
+]
+snap_keeps_by life (Err (errors.StoreFault before after)) old new h = tried_snap_keeps _ _ (Err creates.Failed) old new h.1
+snap_keeps_by life (Err (errors.Memory e)) old new h = keeps_landed old new h.1
+snap_keeps_by life (Err (errors.Corrupt key)) old new h = absurd h
+snap_keeps_by life (Err (errors.Refused refusal)) old new h = absurd h
+snap_keeps_by life (Err (errors.Missing key)) old new h = absurd h
+snap_keeps_by life (Err (errors.Foreign key)) old new h = absurd h
+snap_keeps_by life (Err errors.Full) old new h = absurd h
+snap_keeps_by life (Err (errors.Expired planned_at reached)) old new h = absurd h
+snap_keeps_by life (Err errors.NoIndex) old new h = absurd h
+snap_keeps_by life (Err errors.IndexExists) old new h = absurd h
+snap_keeps_by life (Err (errors.BadConfig bad)) old new h = absurd h
+
+pub snap_keeps : (a b : Option State) (life : Life) (r : Result (Option ℕ) WorldError) → WhereTold a b (Snaps life r) → WhereTold a b KeepsEntries
+snap_keeps a b life r w = told_map a b (λ o s h. entries_kept o s (snap_keeps_by life r o s h)) w
 
 -- the store was not called
 pub still_keeps : (a : Option State) → WhereTold a a KeepsEntries

@@ -16,6 +16,7 @@ pub mod SnapPages
 pub mod SnapReading
 pub mod SnapOpening
 pub mod SnapLaws
+pub mod Snapping
 pub mod Rows
 pub mod Deleting
 pub mod Entering

@@ -1,7 +1,7 @@
 -- What one life of a world knows behind its steps.
 use Rattle.std.proofs.Common.{◌≡◌, ℕ, ◌+◌, ◌<◌, ◌≤◌, ◌^◌, List, [], ◌∷◌, ◌++◌, refl, sym, ap, ◌∙◌, subst, Bool, true, false, length, arith, IsOk}
 use Rattle.std.proofs.lemmas.List.{length-append}
-use Rattle.std.specs.Prelude.{Option, Some, None, max}
+use Rattle.std.specs.Prelude.{Option, Some, None, Result, Ok, Err, MatchResult, max, ⊤}
 use Rattle.meta_journal.specs.Journal.{Numbered}
 use Rattle.meta_journal.specs.declared.entry.Act.{Act}
 use Rattle.meta_journal.specs.declared.entry.Act.TheVariants.{Fence, Create, Stage, Publish, Replace, Raise, Task, MarkStaged, Remove, Retire}
@@ -27,7 +27,7 @@ use Rattle.index_world.specs.Core.{Core, last_count, Marking, taken_at, is_in, U
 use Rattle.index_world.specs.declared.doom_list.Doomed.{Doomed}
 use Rattle.index_world.specs.Gate.{IsTrouble}
 use Rattle.index_world.specs.Index.{IsAllowed}
-use Rattle.index_world.specs.Life.{LifeIs, SameUpkeep, StandsBy, TookIn, reading_in}
+use Rattle.index_world.specs.Life.{LifeIs, SameUpkeep, StandsBy, TookIn, TookNone, reading_in}
 use Rattle.index_world.specs.Steps.{Ends, greatest, noting, noted_behind}
 use Rattle.index_world.specs.Taking.{IsWant}
 use Rattle.index_world.specs.Unsure.{is_unsure}
@@ -163,3 +163,8 @@ answers_allowed s entries f e a =
 pub answers_history : (h : History) (f : Entry) → MayFollow (reading_of reads (config_of reads h) f.act) (state_of reads h) f → IsOk (answer_to (reading_in (state_of reads h) f.act) (state_of reads h) f)
 answers_history h f a =
     (answered (reading_in (state_of reads h) f.act) (state_of reads h) f (numbers_of (reading_in (state_of reads h) f.act) (state_of reads h).config (state_of reads h) f.moment f.act a.1)).1 a
+
+-- whether an entry was taken in or not, the last snapshot is as it was
+pub took_snapped : (r : Result ⊤ WorldError) (old new : Life) (entry : Entry) → MatchResult r (λ done. TookIn old entry new) (λ error. TookNone old entry error new) → new.snapped ≡ old.snapped
+took_snapped (Ok done) old new entry t = t.snapped
+took_snapped (Err error) old new entry t = t.upkeep.2

@@ -284,21 +284,21 @@ abbrev pub IsSnapMade : meta.State → State → Type 0
 IsSnapMade state now = (mid : State) × (TriesSnap state (Ok tt) mid now ⊎ TriesSnap state (Err creates.Exists) mid now)
 
 -- It was due, and was made or stood; or it was not, and nothing was made. The state is the one that is kept behind.
-abbrev pub SaysSnapped : Result (Option ℕ) WorldError → Keeping → Keeping → State → State → Type 0
-SaysSnapped (Ok (Some revision)) old new was now =
+abbrev pub SaysSnapped : Result (Option ℕ) WorldError → Keeping → Keeping → State → Type 0
+SaysSnapped (Ok (Some revision)) old new now =
     (is_due_at old.snapped new.meta.revision ≡ true) × (revision ≡ new.meta.revision) × (new.snapped ≡ revision) × (new.unsure ≡ false) × IsSnapMade new.meta now
-SaysSnapped (Ok None) old new was now = (is_due_at old.snapped new.meta.revision ≡ false) × (new.snapped ≡ old.snapped) × (new.unsure ≡ false)
-SaysSnapped (Err (errors.StoreFault before after)) old new was now = new.snapped ≡ old.snapped
-SaysSnapped (Err (errors.Memory e)) old new was now = new.snapped ≡ old.snapped
-SaysSnapped (Err (errors.Corrupt key)) old new was now = IsUnfitAt now new.next new.meta key × (new.snapped ≡ old.snapped)
-SaysSnapped (Err (errors.Refused refusal)) old new was now = ⊥
-SaysSnapped (Err (errors.Missing key)) old new was now = ⊥
-SaysSnapped (Err (errors.Foreign key)) old new was now = ⊥
-SaysSnapped (Err errors.Full) old new was now = ⊥
-SaysSnapped (Err (errors.Expired planned_at reached)) old new was now = ⊥
-SaysSnapped (Err errors.NoIndex) old new was now = ⊥
-SaysSnapped (Err errors.IndexExists) old new was now = ⊥
-SaysSnapped (Err (errors.BadConfig bad)) old new was now = ⊥
+SaysSnapped (Ok None) old new now = (is_due_at old.snapped new.meta.revision ≡ false) × (new.snapped ≡ old.snapped) × (new.unsure ≡ false)
+SaysSnapped (Err (errors.StoreFault before after)) old new now = new.snapped ≡ old.snapped
+SaysSnapped (Err (errors.Memory e)) old new now = new.snapped ≡ old.snapped
+SaysSnapped (Err (errors.Corrupt key)) old new now = IsUnfitAt now new.next new.meta key × (new.snapped ≡ old.snapped)
+SaysSnapped (Err (errors.Refused refusal)) old new now = ⊥
+SaysSnapped (Err (errors.Missing key)) old new now = ⊥
+SaysSnapped (Err (errors.Foreign key)) old new now = ⊥
+SaysSnapped (Err errors.Full) old new now = ⊥
+SaysSnapped (Err (errors.Expired planned_at reached)) old new now = ⊥
+SaysSnapped (Err errors.NoIndex) old new now = ⊥
+SaysSnapped (Err errors.IndexExists) old new now = ⊥
+SaysSnapped (Err (errors.BadConfig bad)) old new now = ⊥
 
 -- a number that was staged, whose row is gone by what is kept, and whose file stands between two keys
 abbrev pub is_left_in : Keeping → State → (behind next : Option (List ℕ)) → ℕ → Bool
@@ -340,7 +340,7 @@ IsAnswer (tasks_answered upto result) old new = (new ≡ old) × IfOk result (λ
 IsAnswer (mark_stale_answered result) old new = Tells result old new (λ was now. SaysRows (stale_in new) MarkStaged result new now) × Followed old new
 IsAnswer (remove_answered result) old new = Tells result old new (λ was now. SaysRows (doomed_in new) Remove result new now) × Followed old new
 IsAnswer (retire_answered result) old new = Tells result old new (λ was now. SaysRows (old_in new) Retire result new now) × Followed old new
-IsAnswer (snapshot_answered result) old new = Tells result old new (λ was now. SaysSnapped result old new was now) × Followed old new
+IsAnswer (snapshot_answered result) old new = Tells result old new (λ was now. SaysSnapped result old new now) × Followed old new
 IsAnswer (doom_answered result) old new = (new.meta ≡ old.meta) × Tells result old new (λ was now. SaysDoomed result old new was now)
 IsAnswer (list_answered behind result) old new = (new.meta ≡ old.meta) × Tells result old new (λ was now. SaysListed behind result new was now)
 IsAnswer (sweep_answered number result) old new =

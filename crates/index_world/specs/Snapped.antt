@@ -1,6 +1,8 @@
 -- What a life does for a snapshot, by its answer.
 use Rattle.std.specs.Prelude.{◌≡◌, ◌⊎◌, ℕ, true, false, Option, Some, None, Result, Ok, Err, ⊤}
+use Rattle.byte_fields.specs.Causes.{Rose}
 use Rattle.object_store.specs.Store.{State, HasLanded}
+use Rattle.object_store.specs.declared.store.CreateError.{CreateError}
 use Rattle.object_store.specs.declared.store.CreateError.TheVariants as creates
 use Rattle.index_world.specs.Answering.{TriesSnap}
 use Rattle.index_world.specs.Snapping.{is_due_at}
@@ -31,6 +33,28 @@ Snaps life (Err (errors.Expired planned_at reached)) old new = ⊥
 Snaps life (Err errors.NoIndex) old new = ⊥
 Snaps life (Err errors.IndexExists) old new = ⊥
 Snaps life (Err (errors.BadConfig bad)) old new = ⊥
+
+-- why the create of a snapshot wrote none: one that stands already counts as written
+abbrev pub unwritten : Result (Unit {0}) CreateError → (before after : ℕ) → Option WorldError
+unwritten (Ok done) before after = None
+unwritten (Err creates.Exists) before after = None
+unwritten (Err creates.Failed) before after = Some (errors.StoreFault before after)
+unwritten (Err (creates.Memory e)) before after = Some (errors.Memory e)
+
+-- A fault has the count at which the world's call began and this one, and comes only where the count rose since another or stands at
+-- its end.
+abbrev pub IsFaultSince : (start before now : ℕ) → WorldError → Type 0
+IsFaultSince start before now (errors.StoreFault low high) = (low ≡ start) × (high ≡ now) × Rose before now
+IsFaultSince start before now (errors.Memory e) = ⊤
+IsFaultSince start before now (errors.Corrupt key) = ⊤
+IsFaultSince start before now (errors.Refused refusal) = ⊤
+IsFaultSince start before now (errors.Missing key) = ⊤
+IsFaultSince start before now (errors.Foreign key) = ⊤
+IsFaultSince start before now errors.Full = ⊤
+IsFaultSince start before now (errors.Expired planned_at reached) = ⊤
+IsFaultSince start before now errors.NoIndex = ⊤
+IsFaultSince start before now errors.IndexExists = ⊤
+IsFaultSince start before now (errors.BadConfig bad) = ⊤
 
 -- over all stores: which errors may come
 abbrev pub IsOfSnapshot : WorldError → Type 0

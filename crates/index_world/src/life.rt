@@ -3,6 +3,7 @@
 ghost use Rattle.std.specs.Prelude.{◌≡◌, ◌≤◌, ◌<◌, ◌^◌, IsSome};
 ghost use Rattle.std.specs.Option.{ForSome};
 ghost use Rattle.doc_value.specs.Documents.{IsSchema};
+ghost use Rattle.index_world.specs.Snapped.{unwritten};
 
 use crate::doom_list::Doomed;
 use crate::marking::{Marking, note};
@@ -38,8 +39,20 @@ pub struct Life {
     ghost schema: { ForSome meta.state.config (λ config. ∥ IsSchema config.settings.index.schema ∥₁) },
 }
 
+// Why the create of a snapshot wrote none. One that stands already counts as written.
+fn snap_error(answer: Result<(), CreateError>, before: u64, after: u64) -> Option<WorldError>
+    ensures { result ≡ unwritten answer before after }
+{
+    match answer {
+        Ok(()) => None,
+        Err(CreateError::Exists) => None,
+        Err(CreateError::Failed) => Some(WorldError::StoreFault { before, after }),
+        Err(CreateError::Memory(refused)) => Some(WorldError::Memory(refused)),
+    }
+}
+
 impl Life {
-    ghost use Rattle.std.specs.Prelude.{◌≡◌, ◌≤◌, ◌+◌, OnOk, IfOk, IfErr, IsOk, MatchResult, Some, length, vec_len, vec_capacity};
+    ghost use Rattle.std.specs.Prelude.{◌≡◌, ◌≤◌, ◌+◌, OnOk, IfOk, IfErr, IsOk, MatchResult, None, Some, length, vec_len, vec_capacity};
     ghost use Rattle.meta_store.specs.Readings as read;
     ghost use Rattle.index_world.specs.Config.{reads};
     ghost use Rattle.meta_journal.specs.declared.place.JournalPlace.TheVariants.{Sure, Given};
@@ -52,7 +65,7 @@ impl Life {
     ghost use Rattle.index_world.specs.Life.{TookIn, TookNone, StandsBy, Settling, Creating, Appending, Appends, Makes};
     ghost use Rattle.index_world.specs.Owning.{CanOwn, MayOwn};
     ghost use Rattle.index_world.specs.PlaceMade.{IsPlaceMade};
-    ghost use Rattle.index_world.specs.Snapped.{Snaps, snapped_behind, IsOfSnapshot};
+    ghost use Rattle.index_world.specs.Snapped.{Snaps, snapped_behind, IsFaultSince, IsOfSnapshot};
     ghost use Rattle.index_world.specs.Snapping.{is_due_at};
     ghost use Rattle.index_world.specs.Taking.{IsFaultBetween};
 
@@ -119,6 +132,7 @@ impl Life {
         before: u64,
     ) -> Result<(), WorldError>
         ensures place { OnOk result (self.new.journal.place ≡ Sure) }
+        ensures snapped { self.new.snapped ≡ self.old.snapped }
         ensures step { (old : State) (core : Core) (log : Log) → S.told store.old ≡ Some old → StandsBy old core log (S.fault_count store.old) self.old →
             before ≡ core.store_faults → Settling old core log result (S.told store.new) (S.fault_count store.new) self.new }
         // Over all stores, whatever the state is.
@@ -254,7 +268,8 @@ impl Life {
         ensures same { self.new ≡ record self.old { snapped = snapped_behind result self.old.snapped } }
         // Over all stores.
         ensures later { S.fault_count store.old ≤ S.fault_count store.new }
-        ensures faults { before ≤ S.fault_count store.old → IfErr result (IsFaultBetween before (S.fault_count store.new)) }
+        ensures idle { IfOk result (λ written. written ≡ None → S.fault_count store.new ≡ S.fault_count store.old) }
+        ensures faults { IfErr result (IsFaultSince before (S.fault_count store.old) (S.fault_count store.new)) }
         ensures kinds { IfErr result IsOfSnapshot }
     {
         if !self.is_snap_due() {
@@ -263,14 +278,12 @@ impl Life {
         let revision = self.meta.revision();
         let bytes = self.meta.snapshot(alloc)?;
         let answer = store.create(alloc, &snap_key(revision), bytes.as_slice());
-        let after = store.faults();
-        match answer {
-            Ok(()) | Err(CreateError::Exists) => {
+        match snap_error(answer, before, store.faults()) {
+            None => {
                 self.snapped = revision;
                 Ok(Some(revision))
             }
-            Err(CreateError::Failed) => Err(WorldError::StoreFault { before, after }),
-            Err(CreateError::Memory(refused)) => Err(WorldError::Memory(refused)),
+            Some(error) => Err(error),
         }
     }
 }

@@ -451,7 +451,10 @@ impl<S: ObjectStore, C: SteadyClock> World<S, C> {
     {
         let before = self.store.faults();
         self.life.settle(alloc, &mut self.store, before)?;
-        self.life.snapshot(alloc, &mut self.store, before)
+        let written = self.life.snapshot(alloc, &mut self.store, before);
+        // The count of a store has its range.
+        let _count = self.store.faults();
+        written
     }
 
     /// Removes all marked rows that this life doomed, and says how many. Where there is none nothing is appended.

@@ -1,5 +1,5 @@
 -- The objects of a journal, read one after another.
-use Rattle.std.proofs.Common.{◌≡◌, ℕ, ◌+◌, ◌<◌, List, [], ◌∷◌, ◌++◌, length, Option, Some, None, Result, Ok, Err, refl, sym, ap, subst, ◌∙◌, arith, add-zero}
+use Rattle.std.proofs.Common.{◌≡◌, ℕ, ◌+◌, ◌<◌, ◌≤◌, List, [], ◌∷◌, ◌++◌, length, Option, Some, None, Result, Ok, Err, refl, sym, ap, subst, ◌∙◌, arith, add-zero}
 use Rattle.std.specs.Prelude.{IsSome, IfOk}
 use Rattle.object_store.specs.Store.{State, HasLanded}
 use Rattle.object_store.proofs.Landings.{HasLanded-refl, HasLanded-trans, Lands-from}

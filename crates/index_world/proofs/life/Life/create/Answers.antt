@@ -25,18 +25,18 @@ pub returns-in_err-act-clause-step : goal.returns-in_err-act-clause-step
 returns-in_err-act-clause-step g c old core log e b owned =
     creating_wants_by old core log _ _ c.args.self.now b _ _ e (omega arith) b.within c.args.self.now c.args.own _ c.args.before c.from_residual.result _ c.from_residual.ensures.1
     (λ error is. subst IsWant (sym is) tt) refl
-    (life_on c.args.self.now c.args.self.now core.history core.moment core.unsure false b.knows refl refl refl (refl, refl) (ap is_unsure c.requires.sure)) refl refl
+    (life_on c.args.self.now c.args.self.now core.history core.moment core.unsure false b.knows refl refl refl (refl, refl, refl) (ap is_unsure c.requires.sure)) refl refl
 
 pub returns-in_default-clause-step : goal.returns-in_default-clause-step
 returns-in_default-clause-step g c old core log e b owned =
     creating_nothing old core log _ _ c.args.self.now b _ _ e (omega arith) b.within c.args.self.now c.args.own _ c.args.before
     (sym (own_alike c.args.own c.args.self.now core core.unsure b.knows) ∙ code_none c.in_ok-act.field-0 (offer_in c.args.own c.args.self.now.moment c.args.self.now.doomed.numbers.items c.args.self.now.meta.state) c.in_default.is c.in_ok-act.ensures.same) refl
-    (life_on c.args.self.now c.args.self.now core.history core.moment core.unsure false b.knows refl refl refl (refl, refl) (ap is_unsure c.requires.sure)) refl refl
+    (life_on c.args.self.now c.args.self.now core.history core.moment core.unsure false b.knows refl refl refl (refl, refl, refl) (ap is_unsure c.requires.sure)) refl refl
 
 pub returns-in-Err-clause-step : goal.returns-in-Err-clause-step
 returns-in-Err-clause-step g c old core log e b owned =
     creating_wants old core log _ _ c.args.self.now b _ _ e (omega arith) b.within _ c.args.own _ c.args.before _ tt refl
-    (life_on c.args.self.now _ core.history core.moment core.unsure false b.knows refl refl refl (c.read_with_room.ensures.same, refl) (ap is_unsure c.requires.sure)) refl refl
+    (life_on c.args.self.now _ core.history core.moment core.unsure false b.knows refl refl refl (c.read_with_room.ensures.same, refl, refl) (ap is_unsure c.requires.sure)) refl refl
 
 pub returns-in-Err-prepare-clause-step : goal.returns-in-Err-prepare-clause-step
 returns-in-Err-prepare-clause-step g c old core log e b owned =
@@ -45,7 +45,7 @@ returns-in-Err-prepare-clause-step g c old core log e b owned =
     let revision : c.args.self.now.meta.state.revision ≡ length core.history = c.args.self.now.in_step ∙ b.knows.next in
     creating_unprepared old core log _ _ c.args.self.now b _ _ e (omega arith) b.within _ c.args.own (record { act = c.in-Some.field-0.act; answer = c.in-Some.field-0.count }) _ c.args.before c.in-Err-prepare.unprepared (sym (own_alike c.args.own c.args.self.now core core.unsure b.knows) ∙ (code_offered c.in_ok-act.field-0 c.in-Some.field-0 (offer_in c.args.own c.args.self.now.moment c.args.self.now.doomed.numbers.items c.args.self.now.meta.state) c.in-Some.is c.in_ok-act.ensures.same))
     (unprepared_same _ _ _ _ _ _ answer revision refl c.in-Err-prepare.ensures.why) refl refl
-    (life_on c.args.self.now _ core.history core.moment core.unsure false b.knows refl c.prepare.ensures.same refl (c.read_with_room.ensures.same, refl) (ap is_unsure c.requires.sure)) refl
+    (life_on c.args.self.now _ core.history core.moment core.unsure false b.knows refl c.prepare.ensures.same refl (c.read_with_room.ensures.same, refl, refl) (ap is_unsure c.requires.sure)) refl
 
 pub returns-in-Ok-answer-clause-step : goal.returns-in-Ok-answer-clause-step
 returns-in-Ok-answer-clause-step g c old core log e b owned =
@@ -61,7 +61,7 @@ returns-in-Ok-answer-clause-step g c old core log e b owned =
     _ _ c.args.before c.in-Ok-answer.field-0 c.in-Some.field-0.count refl
     (appends_at _ _ _ _ _ _ said c.append-answer.ensures.answer)
     (life_own c.args.self.now _ core.history core.moment core.unsure _ _ c.in-Ok.reading c.prepare.new.meta.state b.knows
-    (c.append-answer.ensures.next ∙ ap (next_appended c.args.self.now.journal.next) said) (c.append-answer.ensures.place ∙ ap place_appended said) state (c.apply.ensures ∙ ap (λ (r : Said). after r (at c.args.self.now.moment c.in-Some.field-0.act) c.prepare.new.meta.state) c.in-Ok-prepare.ensures.handed) c.in-Ok.ensures.value refl (c.note.ensures ∙ ap (λ ms. ms ++ marks_of c.in-Some.field-0.act c.args.self.now.moment) c.read_with_room.ensures.same, refl) (let m = b.knows.moment in omega (arith, m)) same)
+    (c.append-answer.ensures.next ∙ ap (next_appended c.args.self.now.journal.next) said) (c.append-answer.ensures.place ∙ ap place_appended said) state (c.apply.ensures ∙ ap (λ (r : Said). after r (at c.args.self.now.moment c.in-Some.field-0.act) c.prepare.new.meta.state) c.in-Ok-prepare.ensures.handed) c.in-Ok.ensures.value refl (c.note.ensures ∙ ap (λ ms. ms ++ marks_of c.in-Some.field-0.act c.args.self.now.moment) c.read_with_room.ensures.same, refl, refl) (let m = b.knows.moment in omega (arith, m)) same)
     c.append-answer.ensures.settled
 
 pub returns-in-Adopted-clause-step : goal.returns-in-Adopted-clause-step
@@ -79,7 +79,7 @@ returns-in-Adopted-clause-step g c old core log e b owned =
     _ _ c.args.before c.in-Adopted.entry
     (appends_at _ _ _ _ _ _ said c.append-answer.ensures.answer)
     (subst (λ (r : Result ℕ JournalError). IfErr r (IsTaken c.args.self.now.journal.settled)) said c.append-answer.ensures.taken) place
-    (life_on c.args.self.now _ core.history core.moment core.unsure true b.knows (c.append-answer.ensures.next ∙ ap (next_appended c.args.self.now.journal.next) said) c.prepare.ensures.same refl (c.read_with_room.ensures.same, refl) (ap is_unsure place))
+    (life_on c.args.self.now _ core.history core.moment core.unsure true b.knows (c.append-answer.ensures.next ∙ ap (next_appended c.args.self.now.journal.next) said) c.prepare.ensures.same refl (c.read_with_room.ensures.same, refl, refl) (ap is_unsure place))
     c.append-answer.ensures.settled
 
 pub returns-in_default-error-clause-place : goal.returns-in_default-error-clause-place
@@ -106,7 +106,7 @@ returns-in_default-error-clause-step g c old core log e b owned =
     (subst (λ (r : Result ℕ JournalError). IfErr r (IsTaken c.args.self.now.journal.settled)) said c.append-answer.ensures.taken)
     no
     (λ full. let le = c.append-answer.ensures.full.0 (said ∙ ap Err full) in omega (arith, le, low, step))
-    (life_on c.args.self.now _ core.history core.moment core.unsure _ b.knows (c.append-answer.ensures.next ∙ ap (next_appended c.args.self.now.journal.next) said) c.prepare.ensures.same refl (c.read_with_room.ensures.same, refl) (ap is_unsure place))
+    (life_on c.args.self.now _ core.history core.moment core.unsure _ b.knows (c.append-answer.ensures.next ∙ ap (next_appended c.args.self.now.journal.next) said) c.prepare.ensures.same refl (c.read_with_room.ensures.same, refl, refl) (ap is_unsure place))
     c.append-answer.ensures.settled
 
 pub apply-requires-clause-few : goal.apply-requires-clause-few

@@ -7,7 +7,7 @@ use Rattle.meta_journal.specs.declared.place.JournalPlace.TheVariants.{Sure}
 use Rattle.object_store.specs.Store.{WhereTold}
 use Rattle.index_world.specs.Answering.{Follows}
 use Rattle.index_world.specs.Unsure.{is_unsure}
-use Rattle.index_world.proofs.Lives.{life_on}
+use Rattle.index_world.proofs.Lives.{life_on, took_snapped}
 use Rattle.index_world.proofs.Settling.{settling_sure, settling_given, settling_failed, refused_doubt, gave_none, failed_none}
 use Rattle.object_store.proofs.Told.{told_map}
 use Rattle.index_world.proofs.Answering.{fault_of_journal, settles_fault, settles_given, settles_none}
@@ -22,7 +22,7 @@ returns-in-Ok-None-clause-step g c old core log e b at =
     let count = c.faults-count.ensures in
     let fits = c.faults-count.type_inv in
     settling_sure old core log _ _ c.args.self.now b _ _ e c.settle-answer.ensures.later (omega (arith, count, fits)) _ sure still.1 still.2
-    (life_on c.args.self.now _ core.history core.moment core.unsure false b.knows c.settle-answer.ensures.next refl refl (refl, refl) (ap is_unsure (c.settle-answer.ensures.place ∙ ap (place_settled c.args.self.now.journal.place) said)))
+    (life_on c.args.self.now _ core.history core.moment core.unsure false b.knows c.settle-answer.ensures.next refl refl (refl, refl, refl) (ap is_unsure (c.settle-answer.ensures.place ∙ ap (place_settled c.args.self.now.journal.place) said)))
     c.settle-answer.ensures.settled
 
 pub returns-in-Ok-Some-clause-step : goal.returns-in-Ok-Some-clause-step
@@ -34,7 +34,7 @@ returns-in-Ok-Some-clause-step g c old core log e b at =
     (λ sure. gave_none c.in-Ok-Some.entry _ said (c.settle-answer.ensures.sure sure).0)
     _ _ c.in-Ok-Some.entry _
     (subst (λ (r : Result (Option Entry) JournalError). WhereTold (g.S.ObjectStore.told c.args.store.now) (g.S.ObjectStore.told c.settle-answer.new.store) (Settles c.args.self.now.journal.next c.args.self.now.moment r)) said c.settle-answer.ensures.answer)
-    (life_on c.args.self.now _ core.history core.moment core.unsure true b.knows c.settle-answer.ensures.next refl refl (refl, refl) (ap is_unsure (c.settle-answer.ensures.place ∙ ap (place_settled c.args.self.now.journal.place) said)))
+    (life_on c.args.self.now _ core.history core.moment core.unsure true b.knows c.settle-answer.ensures.next refl refl (refl, refl, refl) (ap is_unsure (c.settle-answer.ensures.place ∙ ap (place_settled c.args.self.now.journal.place) said)))
     c.take_in.ensures.taken
 
 pub returns-in-Err-clause-step : goal.returns-in-Err-clause-step
@@ -47,7 +47,7 @@ returns-in-Err-clause-step g c old core log e b at =
     _ _ _ c.in-Err.error _ c.world_error.ensures at
     (subst (λ (r : Result (Option Entry) JournalError). IfErr r (FaultIs (g.S.ObjectStore.fault_count c.args.store.now) (g.S.ObjectStore.fault_count c.settle-answer.new.store))) said c.settle-answer.ensures.faults)
     (subst (λ (r : Result (Option Entry) JournalError). WhereTold (g.S.ObjectStore.told c.args.store.now) (g.S.ObjectStore.told c.settle-answer.new.store) (Settles c.args.self.now.journal.next c.args.self.now.moment r)) said c.settle-answer.ensures.answer)
-    (life_on c.args.self.now _ core.history core.moment core.unsure true b.knows c.settle-answer.ensures.next refl refl (refl, refl)
+    (life_on c.args.self.now _ core.history core.moment core.unsure true b.knows c.settle-answer.ensures.next refl refl (refl, refl, refl)
     (ap is_unsure (c.settle-answer.ensures.place ∙ ap (place_settled c.args.self.now.journal.place) said) ∙ refused_doubt c.args.self.now.journal.place c.in-Err.error unsure))
 
 pub returns-in-Ok-None-clause-later : goal.returns-in-Ok-None-clause-later
@@ -104,3 +104,6 @@ pub returns-in-Err-clause-followed : goal.returns-in-Err-clause-followed
 returns-in-Err-clause-followed g c =
     follows_nothing (g.S.ObjectStore.told c.args.store.now) (g.S.ObjectStore.told c.settle-answer.new.store) _ c.args.self.now.journal.next c.settle-answer.new.self.next c.args.self.now.meta.state c.args.self.now.meta.state c.settle-answer.ensures.next refl
     c.settle-answer.ensures.answer
+
+pub returns-in-Ok-Some-clause-snapped : goal.returns-in-Ok-Some-clause-snapped
+returns-in-Ok-Some-clause-snapped g c = took_snapped c.take_in.result _ _ _ c.take_in.ensures.taken

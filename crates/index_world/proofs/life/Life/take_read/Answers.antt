@@ -10,7 +10,7 @@ returns-in-Err-clause-taken c = record {
   journal = refl;
   meta = c.admit.ensures.same;
   moment = refl;
-  upkeep = (refl, refl);
+  upkeep = (refl, refl, refl);
   want = λ ok. c.in-Err.ensures.want (subst (λ (r : Said). IsOk (answer_to r c.args.self.now.meta.state c.args.entry)) (sym c.requires.read) ok);
   unfit = unfit_taken _ _ _ c.args.self.now.journal.next c.in-Err.error (ap (λ (r : Said). answer_to r c.args.self.now.meta.state c.args.entry) c.requires.read) c.next.ensures c.in-Err.ensures.unfit;
 }
