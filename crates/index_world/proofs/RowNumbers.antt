@@ -139,3 +139,21 @@ doomed_over doomed so_far list last number all high inv =
 pub some_numbers : (numbers here : List ℕ) → here ≡ numbers → (numbers ≡ [] → ⊥) → 0 < length here
 some_numbers [] here e some = absurd (some refl)
 some_numbers (n ∷ numbers) here e some = let l = ap length e in omega (arith, l)
+
+-- ---- the rows that may be retired, one after the other
+
+-- the numbers of rows for which this holds
+abbrev pub numbers_where : (ℕ → Bool) → List Row → List ℕ
+numbers_where p list = row_numbers (filter (λ row. p row.number) list)
+
+pub where_more : (p : ℕ → Bool) (list : List Row) (x : Row) → numbers_where p (list ++ x ∷ []) ≡ numbers_where p list ++ filter p (x.number ∷ [])
+where_more p [] x = by (p x.number) refl
+  where
+    by : (b : Bool) → p x.number ≡ b → numbers_where p (x ∷ []) ≡ filter p (x.number ∷ [])
+    by true t = rw t refl
+    by false t = rw t refl
+where_more p (y ∷ list) x = by (p y.number) refl (where_more p list x)
+  where
+    by : (b : Bool) → p y.number ≡ b → numbers_where p (list ++ x ∷ []) ≡ numbers_where p list ++ filter p (x.number ∷ []) → numbers_where p (y ∷ (list ++ x ∷ [])) ≡ numbers_where p (y ∷ list) ++ filter p (x.number ∷ [])
+    by true t more = rw t (ap (λ (ns : List ℕ). y.number ∷ ns) more)
+    by false t more = rw t more

@@ -4,7 +4,7 @@ ghost use Rattle.std.specs.Prelude.{ℕ, List, length, map, Result, ◌≡◌, �
 ghost use Rattle.std.specs.FinMap.{empty};
 ghost use Rattle.std.specs.List.{AllByRecursion};
 ghost use Rattle.meta_journal.specs.declared.entry.Entry.{Entry};
-ghost use Rattle.meta_journal.specs.Places.{meta_key, split_key, IsJournal};
+ghost use Rattle.meta_journal.specs.Places.{meta_key, snap_key, split_key, IsJournal};
 ghost use Rattle.meta_journal.specs.Spelling.{Spells};
 ghost use Rattle.object_store.specs.Store.{State, landed, with_object, with_late, HasLanded, LandsThen, Creates, Deletes};
 ghost use Rattle.object_store.specs.declared.store.CreateError.{CreateError};
@@ -40,7 +40,8 @@ ghost use Rattle.index_world.specs.Alike.{AreAlike};
 ghost use Rattle.index_world.specs.Replacing.{IsRaisable, IsReplaceable};
 ghost use Rattle.meta_store.specs.Left.{HasMarks, mark_of};
 ghost use Rattle.index_world.specs.World.{GoesFor, IsWorld, IsTimely, Keeping, WorldStands};
-ghost use Rattle.index_world.specs.Held.{Still, Enters, AfterLanding, AfterCreate, AfterUpload, AfterDelete, Loads};
+ghost use Rattle.index_world.specs.Held.{All, Goes, Still, Enters, AfterLanding, AfterCreate, AfterUpload, AfterDelete, Loads};
+ghost use Rattle.index_world.specs.Snaps.{IsSnap};
 
 /// Late creates that come to stand leave an index, of the same entries or with one that was late.
 pub fn landings_keep()
@@ -71,6 +72,13 @@ pub fn upload_keeps()
     ensures { (old new : State) (entries : List Entry) (log : Log) (number : ℕ) (bytes : List ℕ) (answer : Result (Unit {0}) CreateError) →
         IsIndexOf old entries log → IsUnused old entries number →
         LandsThen (Creates (split_key number) bytes answer) old new → AfterUpload answer old new entries log number bytes }
+{}
+
+/// A create of a snapshot of as many of the entries as its key says leaves an index with each of its answers, whatever lands as it begins.
+pub fn snapshot_keeps()
+    ensures { (old new : State) (entries : List Entry) (log : Log) (number : ℕ) (bytes : List ℕ) (answer : Result (Unit {0}) CreateError) →
+        IsIndexOf old entries log → IsSnap entries (snap_key number) bytes →
+        LandsThen (Creates (snap_key number) bytes answer) old new → Goes All All old new entries log }
 {}
 
 /// A delete of the file of a number whose row was marked or is gone leaves an index with each of its answers, whatever lands as it
