@@ -8,7 +8,7 @@ use Rattle.source_log.specs.Log.{Log}
 use Rattle.turn_lock.specs.Counts.{Rises, run_of}
 use Rattle.turn_lock.proofs.Beginnings.{prefix_trans}
 use Rattle.index_config.specs.declared.config.IndexConfig.{IndexConfig}
-use Rattle.index_world.specs.Answering.{Answered, IsAnswer, marks_answered, moment_answered, stage_answered, upload_answered, publish_answered, replace_answered, raise_answered, task_answered, plan_answered, tasks_answered, mark_stale_answered, doom_answered, remove_answered, list_answered, sweep_answered, fetch_answered}
+use Rattle.index_world.specs.Answering.{Answered, IsAnswer, marks_answered, moment_answered, stage_answered, upload_answered, publish_answered, replace_answered, raise_answered, task_answered, plan_answered, tasks_answered, mark_stale_answered, retire_answered, snapshot_answered, doom_answered, remove_answered, list_answered, sweep_answered, fetch_answered}
 use Rattle.index_world.specs.Asked.{Behind}
 use Rattle.index_world.specs.Calls.{Fate, Gives, gives}
 use Rattle.index_world.specs.CallsMade.{Ask, CallMade, IsRecorded, IsShort, made_of}
@@ -52,6 +52,8 @@ answers_tell (task_answered ask result) old new x = where_tells old.told new.tol
 answers_tell (plan_answered choice result) old new x = where_tells old.told new.told _ x.0.1
 answers_tell (tasks_answered upto result) old new x = told_same old.told new.told (ap (λ (k : Keeping). k.told) x.0)
 answers_tell (mark_stale_answered result) old new x = where_tells old.told new.told _ x.0.1
+answers_tell (retire_answered result) old new x = where_tells old.told new.told _ x.0.1
+answers_tell (snapshot_answered result) old new x = where_tells old.told new.told _ x.0.1
 answers_tell (doom_answered result) old new x = where_tells old.told new.told _ x.1.1
 answers_tell (remove_answered result) old new x = where_tells old.told new.told _ x.0.1
 answers_tell (list_answered behind result) old new x = where_tells old.told new.told _ x.1.1

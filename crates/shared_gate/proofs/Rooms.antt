@@ -5,9 +5,10 @@ use Rattle.std.specs.declared.alloc.AllocError.{AllocError}
 use Rattle.source_checkpoint.specs.declared.delta.Part.{Part}
 use Rattle.split_states.specs.declared.facts.RowFacts.{RowFacts}
 use Rattle.index_world.specs.Calls.{Call, Fate, Grace, gives, no_memory, troubled, hindered, and_then, asked, asked_and_looked, begun, calm_call, fetched_from, looked, settle_with, unless_short, upload_made}
-use Rattle.index_world.specs.Collecting.{doom_call, list_call, mark_stale_call, remove_call, sweep_call}
+use Rattle.index_world.specs.Collecting.{doom_call, list_call, mark_stale_call, remove_call, retire_call, sweep_call}
 use Rattle.index_world.specs.Core.{Core, last_count}
 use Rattle.index_world.specs.Gate.{IsTrouble, IsUnfetched, IsUnmade, publish_call, raise_call, replace_call, stage_call, task_call}
+use Rattle.index_world.specs.Snapping.{snapshot_call}
 use Rattle.index_world.specs.declared.tokens.DeleteAsk.{DeleteAsk}
 use Rattle.index_world.proofs.JournalCalls.{still_counted}
 use Rattle.shared_gate.proofs.Doing.{Short}
@@ -60,6 +61,12 @@ no_room_to_fetch grace number error core within = record { fate = no_room; answe
 
 pub no_room_to_mark : (error : AllocError) (core : Core) → core.store_faults ≤ last_count → Short mark_stale_call IsUnmade error core
 no_room_to_mark error core within = record { fate = no_room; answer = troubled no_memory; did = refl; says = refl }
+
+pub no_room_to_retire : (error : AllocError) (core : Core) → core.store_faults ≤ last_count → Short retire_call IsUnmade error core
+no_room_to_retire error core within = record { fate = no_room; answer = troubled no_memory; did = refl; says = refl }
+
+pub no_room_to_snap : (error : AllocError) (core : Core) → core.store_faults ≤ last_count → Short snapshot_call IsTrouble error core
+no_room_to_snap error core within = record { fate = no_room; answer = no_memory; did = refl; says = refl }
 
 pub no_room_to_doom : (error : AllocError) (core : Core) → core.store_faults ≤ last_count → Short doom_call IsTrouble error core
 no_room_to_doom error core within = record { fate = no_room; answer = no_memory; did = refl; says = refl }

@@ -6,11 +6,12 @@ use Rattle.object_store.specs.declared.store.Piece.{Piece}
 use Rattle.source_checkpoint.specs.declared.delta.Part.{Part}
 use Rattle.source_log.specs.Log.{Log}
 use Rattle.split_states.specs.declared.facts.RowFacts.{RowFacts}
-use Rattle.index_world.specs.Answering.{marks_answered, moment_answered, stage_answered, upload_answered, publish_answered, replace_answered, raise_answered, task_answered, plan_answered, mark_stale_answered, doom_answered, remove_answered, list_answered, sweep_answered, fetch_answered}
+use Rattle.index_world.specs.Answering.{marks_answered, moment_answered, stage_answered, upload_answered, publish_answered, replace_answered, raise_answered, task_answered, plan_answered, mark_stale_answered, retire_answered, snapshot_answered, doom_answered, remove_answered, list_answered, sweep_answered, fetch_answered}
 use Rattle.index_world.specs.Calls.{looked, asked, asked_and_looked, upload_made, fetched_from}
-use Rattle.index_world.specs.Collecting.{doom_call, IsSweepPage, list_call, mark_stale_call, remove_call, sweep_call}
+use Rattle.index_world.specs.Collecting.{doom_call, IsSweepPage, list_call, mark_stale_call, remove_call, retire_call, sweep_call}
 use Rattle.index_world.specs.Core.{Core, IsConfigured, IsUnusedIn}
 use Rattle.index_world.specs.Gate.{grace_of, IsGiven, IsReceipt, raise_call, replace_call, task_call, IsTrouble, IsUnmade, IsUnfetched, AreMarks, IsMoment, stage_call, WasStaged, WasUploaded, publish_call, IsPublishable, IsRevision, IsPlan, IsPieceGiven}
+use Rattle.index_world.specs.Snapping.{snapshot_call}
 use Rattle.index_world.specs.Replacing.{IsRaisable, IsReplaceable}
 use Rattle.index_world.specs.World.{Keeping, WorldStands}
 use Rattle.index_world.specs.declared.tokens.DeleteAsk.{DeleteAsk}
@@ -80,6 +81,12 @@ plan_act choice result = Answering (plan_answered choice result) (Acting Always 
 
 abbrev pub mark_stale_act : Result ℕ WorldError → Keeping → Keeping → Type 0
 mark_stale_act result = Answering (mark_stale_answered result) (ActingWith Always None mark_stale_call IsUnmade (λ core. IsGiven) result)
+
+abbrev pub retire_act : Result ℕ WorldError → Keeping → Keeping → Type 0
+retire_act result = Answering (retire_answered result) (ActingWith Always None retire_call IsUnmade (λ core. IsGiven) result)
+
+abbrev pub snapshot_act : Result (Option ℕ) WorldError → Keeping → Keeping → Type 0
+snapshot_act result = Answering (snapshot_answered result) (ActingWith Always None snapshot_call IsTrouble (λ core. IsGiven) result)
 
 abbrev pub doom_act : Result (Option ℕ) WorldError → Keeping → Keeping → Type 0
 doom_act result = Answering (doom_answered result) (ActingWith Always None doom_call IsTrouble (λ core. IsGiven) result)

@@ -7,11 +7,12 @@ use Rattle.source_checkpoint.specs.declared.delta.Part.{Part}
 use Rattle.split_states.specs.declared.facts.RowFacts.{RowFacts}
 use Rattle.index_world.specs.Answering.{Answered, IsAnswer}
 use Rattle.index_world.specs.Calls.{Fate, Grace, Gives, looked, asked, asked_and_looked, upload_made, fetched_from}
-use Rattle.index_world.specs.CallsMade.{Ask, of_checkpoints, of_moment, of_stage, of_upload, of_publish, of_replace, of_raise, of_task, of_plan, of_fetch, of_mark_stale, of_doom, of_remove, of_sweep_list, of_sweep}
-use Rattle.index_world.specs.Collecting.{doom_call, IsSweepPage, list_call, mark_stale_call, remove_call, sweep_call}
+use Rattle.index_world.specs.CallsMade.{Ask, of_checkpoints, of_moment, of_stage, of_upload, of_publish, of_replace, of_raise, of_task, of_plan, of_fetch, of_mark_stale, of_retire, of_snapshot, of_doom, of_remove, of_sweep_list, of_sweep}
+use Rattle.index_world.specs.Collecting.{doom_call, IsSweepPage, list_call, mark_stale_call, remove_call, retire_call, sweep_call}
 use Rattle.index_world.specs.Core.{Core, journal_of, last_count, HasStagedIn}
 use Rattle.index_world.specs.Gate.{Acts, ActsWith, stage_call, publish_call, replace_call, raise_call, task_call}
 use Rattle.index_world.specs.Index.{has_staged}
+use Rattle.index_world.specs.Snapping.{snapshot_call}
 use Rattle.index_world.specs.Replacing.{numbers_of}
 use Rattle.index_world.specs.World.{Keeping, WorldStands, GoesOn}
 use Rattle.index_world.specs.declared.tokens.SweepPage.{SweepPage}
@@ -41,6 +42,8 @@ IsCall (calls.Task delete) ask = ask ≡ of_task delete.value
 IsCall (calls.Plan choice) ask = ask ≡ of_plan choice.value
 IsCall (calls.Fetch number from len) ask = ask ≡ of_fetch number from len
 IsCall calls.MarkStale ask = ask ≡ of_mark_stale
+IsCall calls.Retire ask = ask ≡ of_retire
+IsCall calls.Snapshot ask = ask ≡ of_snapshot
 IsCall calls.Doom ask = ask ≡ of_doom
 IsCall calls.Remove ask = ask ≡ of_remove
 IsCall (calls.SweepList behind page) ask = ask ≡ of_sweep_list (seen_in behind)
@@ -59,6 +62,8 @@ staged_by (calls.Task delete) = None
 staged_by (calls.Plan choice) = None
 staged_by (calls.Fetch number from len) = None
 staged_by calls.MarkStale = None
+staged_by calls.Retire = None
+staged_by calls.Snapshot = None
 staged_by calls.Doom = None
 staged_by calls.Remove = None
 staged_by (calls.SweepList behind page) = None
@@ -77,6 +82,8 @@ uploaded_by (calls.Task delete) = None
 uploaded_by (calls.Plan choice) = None
 uploaded_by (calls.Fetch number from len) = None
 uploaded_by calls.MarkStale = None
+uploaded_by calls.Retire = None
+uploaded_by calls.Snapshot = None
 uploaded_by calls.Doom = None
 uploaded_by calls.Remove = None
 uploaded_by (calls.SweepList behind page) = None
@@ -95,6 +102,8 @@ listed_by (calls.Task delete) = None
 listed_by (calls.Plan choice) = None
 listed_by (calls.Fetch number from len) = None
 listed_by calls.MarkStale = None
+listed_by calls.Retire = None
+listed_by calls.Snapshot = None
 listed_by calls.Doom = None
 listed_by calls.Remove = None
 listed_by (calls.SweepList behind page) = seen_in page
@@ -120,6 +129,8 @@ RanBy (of_task delete) fate core after = (task_call delete fate core).core ≡ a
 RanBy (of_plan choice) fate core after = (asked_and_looked fate core).core ≡ after
 RanBy (of_fetch number from len) fate core after = (grace : Grace) × ((fetched_from grace number fate core).core ≡ after)
 RanBy of_mark_stale fate core after = (mark_stale_call fate core).core ≡ after
+RanBy of_retire fate core after = (retire_call fate core).core ≡ after
+RanBy of_snapshot fate core after = (snapshot_call fate core).core ≡ after
 RanBy of_doom fate core after = (doom_call fate core).core ≡ after
 RanBy of_remove fate core after = (remove_call fate core).core ≡ after
 RanBy (of_sweep_list behind) fate core after = (list_call fate core).core ≡ after

@@ -11,7 +11,7 @@ use Rattle.turn_lock.specs.Passes.{built, seen, places, parts, left}
 use Rattle.turn_lock.specs.declared.history.HasHistory.{Ghosts}
 use Rattle.turn_lock.specs.declared.lock.TurnLock.{TurnLock}
 use Rattle.turn_lock.specs.declared.lock.Pass.{Pass}
-use Rattle.index_world.specs.Answering.{Answered, IsAnswer, marks_answered, moment_answered, stage_answered, upload_answered, publish_answered, replace_answered, raise_answered, task_answered, plan_answered, tasks_answered, mark_stale_answered, doom_answered, remove_answered, list_answered, sweep_answered, fetch_answered}
+use Rattle.index_world.specs.Answering.{Answered, IsAnswer, marks_answered, moment_answered, stage_answered, upload_answered, publish_answered, replace_answered, raise_answered, task_answered, plan_answered, tasks_answered, mark_stale_answered, retire_answered, snapshot_answered, doom_answered, remove_answered, list_answered, sweep_answered, fetch_answered}
 use Rattle.index_world.specs.Calls.{Fate}
 use Rattle.index_world.specs.CallsMade.{Ask, CallMade, IsShort, made_of}
 use Rattle.index_world.specs.Core.{Core, IsConfigured, Nobody}
@@ -113,6 +113,8 @@ IsUnheard (task_answered ask result) = IsShort result
 IsUnheard (plan_answered choice result) = IsShort result
 IsUnheard (tasks_answered upto result) = ⊥
 IsUnheard (mark_stale_answered result) = IsShort result
+IsUnheard (retire_answered result) = IsShort result
+IsUnheard (snapshot_answered result) = IsShort result
 IsUnheard (doom_answered result) = IsShort result
 IsUnheard (remove_answered result) = IsShort result
 IsUnheard (list_answered behind result) = IsShort result

@@ -45,6 +45,8 @@ pub enum Call {
         len: u64,
     },
     MarkStale,
+    Retire,
+    Snapshot,
     Doom,
     Remove,
     SweepList {

@@ -4,10 +4,10 @@ ghost use Rattle.std.specs.Prelude.{◌≡◌, ◌<◌, ◌^◌, IfOk, length, s
 ghost use Rattle.std.specs.Option.{option_copied};
 ghost use Rattle.meta_journal.specs.Spelling.{CanSpellFacts};
 ghost use Rattle.meta_store.specs.declared.planning.PlanRow.{PlanRow};
-ghost use Rattle.index_world.specs.CallsMade.{of_checkpoints, of_moment, of_stage, of_upload, of_publish, of_replace, of_raise, of_task, of_plan, of_fetch, of_mark_stale, of_doom, of_remove, of_sweep_list, of_sweep};
+ghost use Rattle.index_world.specs.CallsMade.{of_checkpoints, of_moment, of_stage, of_upload, of_publish, of_replace, of_raise, of_task, of_plan, of_fetch, of_mark_stale, of_retire, of_snapshot, of_doom, of_remove, of_sweep_list, of_sweep};
 ghost use Rattle.index_world.specs.Gate.{CanAddTask};
 ghost use Rattle.index_world.specs.Replacing.{numbers_of};
-ghost use Rattle.shared_gate.specs.Acts.{marks_act, moment_act, stage_act, number_given, page_given, upload_act, publish_act, replace_act, raise_act, task_act, plan_act, mark_stale_act, doom_act, remove_act, list_act, sweep_act, fetch_act};
+ghost use Rattle.shared_gate.specs.Acts.{marks_act, moment_act, stage_act, number_given, page_given, upload_act, publish_act, replace_act, raise_act, task_act, plan_act, mark_stale_act, retire_act, snapshot_act, doom_act, remove_act, list_act, sweep_act, fetch_act};
 ghost use Rattle.shared_gate.specs.Recording.{Records, seen_in};
 
 use crate::call::Call;
@@ -292,6 +292,38 @@ impl<S: ObjectStore, K: Clock, L: SourceLog> Recorded<S, K, L> {
                 let count = self.world.mark_stale(alloc);
                 self.note(Call::MarkStale, home);
                 count
+            }
+        }
+    }
+
+    /// Retires all rows that may be retired.
+    pub fn retire(&mut self, alloc: Global, home: &mut Option<u64>) -> Result<u32, WorldError>
+        ensures { Records K.told (of_retire) (None) (None) (None) (retire_act result) result home.old home.new self.old self.new }
+    {
+        match self.begin() {
+            Err(error) => Err(WorldError::Memory(error)),
+            Ok(()) => {
+                let count = self.world.retire(alloc);
+                self.note(Call::Retire, home);
+                count
+            }
+        }
+    }
+
+    /// Writes a snapshot where one is due.
+    pub fn snapshot(
+        &mut self,
+        alloc: Global,
+        home: &mut Option<u64>,
+    ) -> Result<Option<u64>, WorldError>
+        ensures { Records K.told (of_snapshot) (None) (None) (None) (snapshot_act result) result home.old home.new self.old self.new }
+    {
+        match self.begin() {
+            Err(error) => Err(WorldError::Memory(error)),
+            Ok(()) => {
+                let written = self.world.snapshot(alloc);
+                self.note(Call::Snapshot, home);
+                written
             }
         }
     }

@@ -197,6 +197,20 @@ impl<'a, R: Wait, S: ObjectStore, K: Clock, L: SourceLog> Gate
         count
     }
 
+    fn retire(&mut self, alloc: Global) -> Result<u32, WorldError> {
+        let mut turn = self.lock.turn(self.rt, &mut self.pass);
+        let count = turn.value.retire(alloc, &mut self.home);
+        self.lock.done(turn, &mut self.pass);
+        count
+    }
+
+    fn snapshot(&mut self, alloc: Global) -> Result<Option<u64>, WorldError> {
+        let mut turn = self.lock.turn(self.rt, &mut self.pass);
+        let written = turn.value.snapshot(alloc, &mut self.home);
+        self.lock.done(turn, &mut self.pass);
+        written
+    }
+
     fn doom(&mut self, _alloc: Global) -> Result<Option<u64>, WorldError> {
         let mut turn = self.lock.turn(self.rt, &mut self.pass);
         let doomed = turn.value.doom(&mut self.home);
