@@ -4,13 +4,13 @@ use Rattle.std.specs.List.{reduce}
 use Rattle.std.specs.declared.alloc.AllocError.{AllocError}
 use Rattle.meta_journal.specs.Places.{split_key}
 use Rattle.object_store.specs.Store.{State, WhereTold}
-use Rattle.index_world.specs.Answering.{Answered, doom_answered, list_answered, mark_stale_answered, remove_answered, sweep_answered}
+use Rattle.index_world.specs.Answering.{Answered, doom_answered, list_answered, mark_stale_answered, remove_answered, retire_answered, snapshot_answered, sweep_answered}
 use Rattle.index_world.specs.Asked.{Behind}
 use Rattle.index_world.specs.Collected.{SweepsFile}
 use Rattle.index_world.specs.declared.tokens.SweepPage.{SweepPage}
 use Rattle.index_world.specs.declared.world_error.WorldError.{WorldError}
 use Rattle.index_world.specs.declared.world_error.WorldError.TheVariants as errors
-use Rattle.split_collector.specs.Turns.{Page, Turn, Ways, behind_delete, behind_doom, behind_list, behind_mark, behind_remove, ended, next_behind, to_doom, to_list, to_mark, to_remove, to_sweep}
+use Rattle.split_collector.specs.Turns.{Page, Turn, Ways, behind_delete, behind_doom, behind_list, behind_mark, behind_remove, behind_retire, behind_snap, ended, next_behind, to_doom, to_list, to_mark, to_remove, to_retire, to_snap, to_sweep}
 use Rattle.split_collector.specs.declared.outcome.CollectorOutcome.{CollectorOutcome as Said}
 use Rattle.split_collector.specs.declared.outcome.CollectorOutcome.TheVariants as said
 
@@ -27,9 +27,11 @@ abbrev pub told : Ways Told WorldError
 told =
     record {
       marked = λ count. Ok (said.MarkedStale count);
+      retired = λ count. Ok (said.Retired count);
       doomed = λ number. Ok (said.Doomed number);
       removed = λ count. Ok (said.Removed count);
       swept = λ number. Ok (said.Swept number);
+      snapped = λ revision. Ok (said.Snapped revision);
       nothing = Ok said.Nothing;
       failed = fault_said;
     }
@@ -42,10 +44,12 @@ page_of behind (Err error) = Err error
 -- A call that was answered so is the one of its turn, and leads to the next one.
 abbrev pub Leads : Turn Told → Answered → Turn Told → Type 0
 Leads to_mark (mark_stale_answered answer) next = next ≡ behind_mark told answer
+Leads to_retire (retire_answered answer) next = next ≡ behind_retire told answer
 Leads to_doom (doom_answered answer) next = next ≡ behind_doom told answer
 Leads to_remove (remove_answered answer) next = next ≡ behind_remove told answer
 Leads (to_list behind) (list_answered from answer) next = (from ≡ behind) × (next ≡ behind_list told (page_of behind answer))
 Leads (to_sweep number end) (sweep_answered swept answer) next = (swept ≡ number) × (next ≡ behind_delete told number end answer)
+Leads to_snap (snapshot_answered answer) next = next ≡ behind_snap told answer
 Leads turn call next = ⊥
 
 -- what a sweep did to a store that tells, behind what others did

@@ -9,9 +9,9 @@ use Rattle.index_world.specs.Gate.{IsUnmade}
 use Rattle.index_world.specs.Saying.{error_words}
 use Rattle.index_world.specs.World.{GoesFor, GoesOn}
 use Rattle.split_collector.specs.Ending.{Told}
-use Rattle.split_collector.specs.Outcomes.{Outcome, MarkedStale, Doomed, Removed, Swept, Nothing}
+use Rattle.split_collector.specs.Outcomes.{Outcome, MarkedStale, Retired, Doomed, Removed, Swept, Snapped, Nothing}
 use Rattle.split_collector.specs.Steps.{ArePassed, AreRecorded, Passage, failed_with, ran, stand}
-use Rattle.split_collector.specs.Turns.{Turn, ended, to_doom, to_list, to_mark, to_remove, to_sweep}
+use Rattle.split_collector.specs.Turns.{Turn, ended, to_doom, to_list, to_mark, to_remove, to_retire, to_snap, to_sweep}
 use Rattle.split_collector.specs.declared.outcome.CollectorOutcome.{CollectorOutcome as Said}
 use Rattle.split_collector.specs.declared.outcome.CollectorOutcome.TheVariants as said
 
@@ -20,18 +20,22 @@ use Rattle.split_collector.specs.declared.outcome.CollectorOutcome.TheVariants a
 -- an outcome of the code is this outcome
 abbrev pub IsSaid : Said → Outcome → Type 0
 IsSaid (said.MarkedStale count) outcome = outcome ≡ MarkedStale count
+IsSaid (said.Retired count) outcome = outcome ≡ Retired count
 IsSaid (said.Doomed number) outcome = outcome ≡ Doomed number
 IsSaid (said.Removed count) outcome = outcome ≡ Removed count
 IsSaid (said.Swept number) outcome = outcome ≡ Swept number
+IsSaid (said.Snapped revision) outcome = outcome ≡ Snapped revision
 IsSaid said.Nothing outcome = outcome ≡ Nothing
 IsSaid (said.Fault error) outcome = (unmade : Unmade) × IsUnmade error unmade × (failed_with unmade ≡ Some outcome)
 
 -- the words of an outcome of the code
 abbrev pub said_words : Said → List (List ℕ)
 said_words (said.MarkedStale count) = codes "marked" ∷ decimal count ∷ []
+said_words (said.Retired count) = codes "retired" ∷ decimal count ∷ []
 said_words (said.Doomed number) = codes "doomed" ∷ decimal number ∷ []
 said_words (said.Removed count) = codes "removed" ∷ decimal count ∷ []
 said_words (said.Swept number) = codes "swept" ∷ decimal number ∷ []
+said_words (said.Snapped revision) = codes "snapped" ∷ decimal revision ∷ []
 said_words said.Nothing = codes "nothing" ∷ []
 said_words (said.Fault error) = error_words error
 
@@ -45,10 +49,12 @@ Answers (Err refused) None = ⊤
 -- a turn of the code is the machine's
 abbrev pub Alike : Turn Told → Turn (Option Outcome) → Type 0
 Alike to_mark turn = turn ≡ to_mark
+Alike to_retire turn = turn ≡ to_retire
 Alike to_doom turn = turn ≡ to_doom
 Alike to_remove turn = turn ≡ to_remove
 Alike (to_list behind) turn = turn ≡ to_list behind
 Alike (to_sweep number next) turn = turn ≡ to_sweep number next
+Alike to_snap turn = turn ≡ to_snap
 Alike (ended result) turn = (outcome : Option Outcome) × (turn ≡ ended outcome) × Answers result outcome
 
 -- ---- a step

@@ -3,12 +3,13 @@ use Rattle.std.specs.Prelude.{◌≡◌, ℕ, suc, zero, ◌+◌, ◌*◌, Bool,
 use Rattle.std.specs.List.{AllByRecursion}
 use Rattle.meta_store.specs.History.{history, last_number}
 use Rattle.index_world.specs.Calls.{Fate, calm_fate, Gives, Unmade, as_unmade, faulted, no_memory, refused, troubled}
-use Rattle.index_world.specs.CallsMade.{Ask, CallMade, IsRecorded, of_doom, of_mark_stale, of_remove, of_sweep, of_sweep_list}
-use Rattle.index_world.specs.Collecting.{IsSweepPage, doom_call, is_left, is_swept, list_call, mark_stale_call, remove_call, sweep_call}
+use Rattle.index_world.specs.CallsMade.{Ask, CallMade, IsRecorded, of_doom, of_mark_stale, of_remove, of_retire, of_snapshot, of_sweep, of_sweep_list}
+use Rattle.index_world.specs.Collecting.{IsSweepPage, doom_call, is_left, is_swept, list_call, mark_stale_call, remove_call, retire_call, sweep_call}
 use Rattle.index_world.specs.Core.{Core}
+use Rattle.index_world.specs.Snapping.{snapshot_call}
 use Rattle.index_world.specs.declared.tokens.SweepPage.{SweepPage}
-use Rattle.split_collector.specs.Outcomes.{Outcome, MarkedStale, Doomed, Removed, Swept, Nothing, Refused, Faulted}
-use Rattle.split_collector.specs.Turns.{Page, Turn, Ways, behind_delete, behind_doom, behind_list, behind_mark, behind_remove, ended, next_behind, to_doom, to_list, to_mark, to_remove, to_sweep}
+use Rattle.split_collector.specs.Outcomes.{Outcome, MarkedStale, Retired, Doomed, Removed, Swept, Snapped, Nothing, Refused, Faulted}
+use Rattle.split_collector.specs.Turns.{Page, Turn, Ways, behind_delete, behind_doom, behind_list, behind_mark, behind_remove, behind_retire, behind_snap, ended, next_behind, to_doom, to_list, to_mark, to_remove, to_retire, to_snap, to_sweep}
 
 -- want of memory is no outcome
 abbrev pub failed_with : Unmade → Option Outcome
@@ -20,9 +21,11 @@ abbrev pub outcomes : Ways (Option Outcome) Unmade
 outcomes =
     record {
       marked = λ count. Some (MarkedStale count);
+      retired = λ count. Some (Retired count);
       doomed = λ number. Some (Doomed number);
       removed = λ count. Some (Removed count);
       swept = λ number. Some (Swept number);
+      snapped = λ revision. Some (Snapped revision);
       nothing = Some Nothing;
       failed = failed_with;
     }
@@ -63,10 +66,12 @@ page_given behind next given = stand (behind_list outcomes (page_by behind next 
 -- a step's next call
 abbrev pub turned : Turn (Option Outcome) → CallLuck → Core → Stand
 turned to_mark luck core = called (behind_mark outcomes) (mark_stale_call luck.fate core)
+turned to_retire luck core = called (behind_retire outcomes) (retire_call luck.fate core)
 turned to_doom luck core = called (behind_doom outcomes) (as_unmade (doom_call luck.fate core))
 turned to_remove luck core = called (behind_remove outcomes) (remove_call luck.fate core)
 turned (to_list behind) luck core = page_given behind (next_behind behind luck.end) (as_unmade (list_call luck.fate core))
 turned (to_sweep number next) luck core = called (behind_delete outcomes number next) (as_unmade (sweep_call number luck.fate core))
+turned to_snap luck core = called (behind_snap outcomes) (as_unmade (snapshot_call luck.fate core))
 turned (ended outcome) luck core = stand (ended outcome) core
 
 -- ---- a step of a collector that is alone
@@ -103,18 +108,22 @@ other_ends (end ∷ more) = more
 -- a listing alone takes an end
 abbrev pub end_at : Turn (Option Outcome) → List (List ℕ) → Option (List ℕ)
 end_at to_mark ends = None
+end_at to_retire ends = None
 end_at to_doom ends = None
 end_at to_remove ends = None
 end_at (to_list behind) ends = first_end ends
 end_at (to_sweep number next) ends = None
+end_at to_snap ends = None
 end_at (ended outcome) ends = None
 
 abbrev pub ends_behind : Turn (Option Outcome) → List (List ℕ) → List (List ℕ)
 ends_behind to_mark ends = ends
+ends_behind to_retire ends = ends
 ends_behind to_doom ends = ends
 ends_behind to_remove ends = ends
 ends_behind (to_list behind) ends = other_ends ends
 ends_behind (to_sweep number next) ends = ends
+ends_behind to_snap ends = ends
 ends_behind (ended outcome) ends = ends
 
 -- so many calls at most
@@ -124,16 +133,18 @@ alone (suc calls) turn fates ends core =
     let left = turned turn (record { fate = first_fate fates; end = end_at turn ends }) core in
     alone calls left.turn (other_fates fates) (ends_behind turn ends) left.core
 
--- three calls, and two for each page
+-- five calls, and two for each page
 abbrev pub max_calls : CollectorLuck → ℕ
-max_calls luck = 5 + 2 * length luck.ends + length luck.more
+max_calls luck = 7 + 2 * length luck.ends + length luck.more
 
 abbrev pub outcome_at : Turn (Option Outcome) → Option Outcome
 outcome_at to_mark = None
+outcome_at to_retire = None
 outcome_at to_doom = None
 outcome_at to_remove = None
 outcome_at (to_list behind) = None
 outcome_at (to_sweep number next) = None
+outcome_at to_snap = None
 outcome_at (ended outcome) = outcome
 
 abbrev pub outcome_unless : (short : Bool) → Option Outcome → Option Outcome
@@ -163,10 +174,12 @@ ran turn core (passage ∷ more) =
 -- what a call of the gate is asked for, where there is one
 abbrev pub ask_at : Turn (Option Outcome) → Option Ask
 ask_at to_mark = Some of_mark_stale
+ask_at to_retire = Some of_retire
 ask_at to_doom = Some of_doom
 ask_at to_remove = Some of_remove
 ask_at (to_list behind) = Some (of_sweep_list behind)
 ask_at (to_sweep number next) = Some (of_sweep number)
+ask_at to_snap = Some of_snapshot
 ask_at (ended outcome) = None
 
 -- A listing that was answered gave a page up to this end, of the core that it left; no other call has an end. A number whose file is deleted is
@@ -176,9 +189,11 @@ IsCallAt (to_list behind) passage =
     let given = list_call passage.luck.fate passage.core in
     given.answer ≡ Ok tt → (page : SweepPage) × (page.next ≡ passage.luck.end) × IsSweepPage behind page given.core
 IsCallAt to_mark passage = passage.luck.end ≡ None
+IsCallAt to_retire passage = passage.luck.end ≡ None
 IsCallAt to_doom passage = passage.luck.end ≡ None
 IsCallAt to_remove passage = passage.luck.end ≡ None
 IsCallAt (to_sweep number next) passage = (passage.luck.end ≡ None) × (is_swept passage.core number ≡ true)
+IsCallAt to_snap passage = passage.luck.end ≡ None
 IsCallAt (ended outcome) passage = passage.luck.end ≡ None
 
 -- Each call comes at its turn, and none behind the end. Before each other actors may have acted on the core that the call before it left.

@@ -5,20 +5,24 @@ use Rattle.object_store.specs.Store.{is_behind}
 -- what a step ends with, by what one of its calls did, or why it failed
 pub record Ways (O E : Type 0) : Type 0 where
   pub marked : ℕ → O
+  pub retired : ℕ → O
   pub doomed : ℕ → O
   pub removed : ℕ → O
   pub swept : ℕ → O
+  pub snapped : ℕ → O
   pub nothing : O
   pub failed : E → O
 
 -- where a step is: the call that it makes next, or its end
 pub data Turn (O : Type 0) : Type 0 where
   to_mark : Turn O
+  to_retire : Turn O
   to_doom : Turn O
   to_remove : Turn O
   to_list : (behind : Option (List ℕ)) → Turn O
   -- the file of a number, and the key behind which the next page begins, if there is one
   to_sweep : (number : ℕ) → (next : Option (List ℕ)) → Turn O
+  to_snap : Turn O
   ended : O → Turn O
 
 -- a call that counts rows: none is nothing to do
@@ -27,7 +31,10 @@ counted ways did otherwise (Ok count) = if count == 0 then otherwise else ended 
 counted ways did otherwise (Err error) = ended (ways.failed error)
 
 abbrev pub behind_mark : {O E : Type 0} → Ways O E → Result ℕ E → Turn O
-behind_mark ways answer = counted ways ways.marked to_doom answer
+behind_mark ways answer = counted ways ways.marked to_retire answer
+
+abbrev pub behind_retire : {O E : Type 0} → Ways O E → Result ℕ E → Turn O
+behind_retire ways answer = counted ways ways.retired to_doom answer
 
 abbrev pub behind_doom : {O E : Type 0} → Ways O E → Result (Option ℕ) E → Turn O
 behind_doom ways (Ok None) = to_remove
@@ -40,7 +47,7 @@ behind_remove ways answer = counted ways ways.removed (to_list None) answer
 -- ---- the sweep: page behind page, up to the first number that is swept
 
 abbrev pub behind_sweep : {O E : Type 0} → Ways O E → Turn O
-behind_sweep ways = ended ways.nothing
+behind_sweep ways = to_snap
 
 abbrev pub paging : {O E : Type 0} → Ways O E → (next : Option (List ℕ)) → Turn O
 paging ways None = behind_sweep ways
@@ -69,3 +76,10 @@ abbrev pub behind_delete : {O E : Type 0} → Ways O E → (number : ℕ) → (n
 behind_delete ways number next (Ok true) = ended (ways.swept number)
 behind_delete ways number next (Ok false) = paging ways next
 behind_delete ways number next (Err error) = ended (ways.failed error)
+
+-- ---- the snapshot, the last call
+
+abbrev pub behind_snap : {O E : Type 0} → Ways O E → Result (Option ℕ) E → Turn O
+behind_snap ways (Ok None) = ended ways.nothing
+behind_snap ways (Ok (Some revision)) = ended (ways.snapped revision)
+behind_snap ways (Err error) = ended (ways.failed error)

@@ -8,12 +8,12 @@ ghost use Rattle.split_collector.specs.Standing.{CollectsAs};
 ghost use Rattle.split_collector.specs.Turns.{ended, to_mark};
 
 use crate::outcome::CollectorOutcome;
-use crate::tries::{doom, mark_stale, remove, sweep};
+use crate::tries::{doom, mark_stale, remove, retire, snapshot, sweep};
 use index_world::Gate;
 use std::alloc::{AllocError, Global};
 
-/// Marks rows that were staged for too long, deletes the files of marked rows, removes rows whose files are gone, and deletes files that
-/// have no row. It keeps nothing between its steps.
+/// Marks rows that were staged for too long, retires old ones, deletes the files of marked rows, removes rows whose files are gone, deletes
+/// files that have no row, and writes a snapshot where one is due. It keeps nothing between its steps.
 #[derive(Drop)]
 pub struct Collector {}
 
@@ -43,6 +43,9 @@ impl Collector {
         if let Some(outcome) = mark_stale(alloc, gate)? {
             return Ok(outcome);
         }
+        if let Some(outcome) = retire(alloc, gate)? {
+            return Ok(outcome);
+        }
         if let Some(outcome) = doom(alloc, gate)? {
             return Ok(outcome);
         }
@@ -50,6 +53,9 @@ impl Collector {
             return Ok(outcome);
         }
         if let Some(outcome) = sweep(alloc, gate)? {
+            return Ok(outcome);
+        }
+        if let Some(outcome) = snapshot(alloc, gate)? {
             return Ok(outcome);
         }
         Ok(CollectorOutcome::Nothing)

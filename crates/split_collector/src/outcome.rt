@@ -14,12 +14,16 @@ use std::alloc::{AllocError, Global};
 pub enum CollectorOutcome {
     /// So many rows were marked that had been staged for too long.
     MarkedStale { count: u32 },
+    /// So many rows were retired.
+    Retired { count: u32 },
     /// The file of the row with this number was deleted.
     Doomed { number: u64 },
     /// So many rows were removed whose files are gone.
     Removed { count: u32 },
     /// The file with this number was deleted, which had no row any more.
     Swept { number: u64 },
+    /// A snapshot of so many entries was written.
+    Snapped { revision: u64 },
     /// There was nothing to do.
     Nothing,
     /// A call of the world failed.
@@ -40,11 +44,15 @@ fn put_outcome(alloc: Global, out: &mut Bytes, outcome: &CollectorOutcome) -> Re
         CollectorOutcome::MarkedStale { count } => {
             put_numbered(alloc, out, b"marked", u64::from(*count))
         }
+        CollectorOutcome::Retired { count } => {
+            put_numbered(alloc, out, b"retired", u64::from(*count))
+        }
         CollectorOutcome::Doomed { number } => put_numbered(alloc, out, b"doomed", *number),
         CollectorOutcome::Removed { count } => {
             put_numbered(alloc, out, b"removed", u64::from(*count))
         }
         CollectorOutcome::Swept { number } => put_numbered(alloc, out, b"swept", *number),
+        CollectorOutcome::Snapped { revision } => put_numbered(alloc, out, b"snapped", *revision),
         CollectorOutcome::Nothing => put_word(out, b"nothing"),
         CollectorOutcome::Fault(error) => put_fault(alloc, out, error),
     }

@@ -25,8 +25,8 @@ pub fn nothing_is_exact<G: Gate>(_gate: &G)
 
 /// Where all its calls are calm, a step comes to the same wherever the pages of its sweep end: what it sweeps is the least number that is left.
 pub fn pages_make_no_difference()
-    ensures { (ends : List (List ℕ)) (core : Core) (calls : ℕ) → 5 + 2 * length ends ≤ calls → last_number (history (alone calls to_mark [] ends core).core.history) < 2 ^ 64 →
-        alone calls to_mark [] ends core ≡ alone 5 to_mark [] [] core }
+    ensures { (ends : List (List ℕ)) (core : Core) (calls : ℕ) → 7 + 2 * length ends ≤ calls → last_number (history (alone calls to_mark [] ends core).core.history) < 2 ^ 64 →
+        alone calls to_mark [] ends core ≡ alone 7 to_mark [] [] core }
 {}
 
 /// So each step whose calls are calm is the one.

@@ -9,7 +9,7 @@ ghost use Rattle.split_collector.specs.Ending.{CallsTo, Told, fault_said, told, 
 ghost use Rattle.split_collector.specs.Paging.{GoesBehind, paged_turn};
 ghost use Rattle.split_collector.specs.Standing.{CollectsAs};
 ghost use Rattle.split_collector.specs.Steps.{outcomes};
-ghost use Rattle.split_collector.specs.Turns.{Turn, behind_sweep, ended, next_behind, page_turn, paging, to_doom, to_list, to_mark, to_remove, to_sweep};
+ghost use Rattle.split_collector.specs.Turns.{Turn, behind_sweep, ended, next_behind, page_turn, paging, to_doom, to_list, to_mark, to_remove, to_retire, to_snap, to_sweep};
 
 use crate::keys::is_behind;
 use crate::outcome::CollectorOutcome;
@@ -42,13 +42,49 @@ pub(crate) fn mark_stale<G: Gate>(
 ) -> Result<Option<CollectorOutcome>, AllocError>
     ensures later { G.since gate.old gate.new }
     ensures same { G.bytes_fetched gate.new ≡ G.bytes_fetched gate.old }
-    ensures ends { CallsTo G.told G.Answers to_mark (turn_of result to_doom) gate.old gate.new }
+    ensures ends { CallsTo G.told G.Answers to_mark (turn_of result to_retire) gate.old gate.new }
     ensures step { (core : Core) (log : Log) → G.Stands gate.old core log →
-        CollectsAs G.Stands G.Between G.Adds to_mark (turn_of result to_doom) core log gate.old gate.new }
+        CollectsAs G.Stands G.Between G.Adds to_mark (turn_of result to_retire) core log gate.old gate.new }
 {
     match gate.mark_stale(alloc) {
         Ok(0) => Ok(None),
         Ok(count) => Ok(Some(CollectorOutcome::MarkedStale { count })),
+        Err(error) => failed(error),
+    }
+}
+
+/// Retires the rows that are too old.
+pub(crate) fn retire<G: Gate>(
+    alloc: Global,
+    gate: &mut G,
+) -> Result<Option<CollectorOutcome>, AllocError>
+    ensures later { G.since gate.old gate.new }
+    ensures same { G.bytes_fetched gate.new ≡ G.bytes_fetched gate.old }
+    ensures ends { CallsTo G.told G.Answers to_retire (turn_of result to_doom) gate.old gate.new }
+    ensures step { (core : Core) (log : Log) → G.Stands gate.old core log →
+        CollectsAs G.Stands G.Between G.Adds to_retire (turn_of result to_doom) core log gate.old gate.new }
+{
+    match gate.retire(alloc) {
+        Ok(0) => Ok(None),
+        Ok(count) => Ok(Some(CollectorOutcome::Retired { count })),
+        Err(error) => failed(error),
+    }
+}
+
+/// Writes a snapshot where one is due.
+pub(crate) fn snapshot<G: Gate>(
+    alloc: Global,
+    gate: &mut G,
+) -> Result<Option<CollectorOutcome>, AllocError>
+    ensures later { G.since gate.old gate.new }
+    ensures same { G.bytes_fetched gate.new ≡ G.bytes_fetched gate.old }
+    ensures ends { CallsTo G.told G.Answers to_snap (turn_of result (ended told.nothing)) gate.old gate.new }
+    ensures step { (core : Core) (log : Log) → G.Stands gate.old core log →
+        CollectsAs G.Stands G.Between G.Adds to_snap (turn_of result (ended told.nothing)) core log gate.old gate.new }
+{
+    match gate.snapshot(alloc) {
+        Ok(None) => Ok(None),
+        Ok(Some(revision)) => Ok(Some(CollectorOutcome::Snapped { revision })),
         Err(error) => failed(error),
     }
 }
