@@ -8,7 +8,7 @@ use Rattle.node_run.specs.declared.beginning.Begun.{Begun}
 
 -- the state of an index with no calls, for laws that hold of each
 pub no_calls : Core
-no_calls = record { history = []; store_faults = 0; moment = 0; clock = 0; frozen = false; files = []; unsure = false; standing = None; late = []; marks = []; doomed = [] }
+no_calls = record { history = []; store_faults = 0; moment = 0; clock = 0; frozen = false; files = []; unsure = false; standing = None; late = []; marks = []; doomed = []; snapped = 0 }
 
 module _ {L : Type 0} (told : L → Option Log) (count : L → ℕ) (since : L → L → Type 0) where
   pub begun_more : (among place at : ℕ) (logs : List L) (all : List (Begun L)) (log : L) (one : Begun L) → place + length logs ≡ at → AreBegun told count since among place logs all →

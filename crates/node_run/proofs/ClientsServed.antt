@@ -87,4 +87,4 @@ vacant_of footers (given.Planned search) core log h = absurd (cc (h.1))
 
 -- some core
 pub some_core : Core
-some_core = record { history = []; store_faults = 0; moment = 0; clock = 0; frozen = false; files = []; unsure = false; standing = None; late = []; marks = []; doomed = [] }
+some_core = record { history = []; store_faults = 0; moment = 0; clock = 0; frozen = false; files = []; unsure = false; standing = None; late = []; marks = []; doomed = []; snapped = 0 }

@@ -1,18 +1,19 @@
 -- Whatever the calls of all do, each create of an entry that may still land is at most for the number behind the history.
 use Rattle.std.proofs.Common.{ℕ, Bool, true, false, List, [], ◌∷◌, length, sym, subst, arith}
 use Rattle.std.specs.Prelude.{Option, Some, None, Result, Ok, Err, ⊤, ◌||◌, is_some, nat_le}
-use Rattle.meta_journal.specs.Places.{split_key}
+use Rattle.meta_journal.specs.Places.{snap_key, split_key}
 use Rattle.meta_journal.specs.Spelling.{spelling}
 use Rattle.meta_journal.specs.declared.entry.Act.{Act}
 use Rattle.meta_journal.specs.declared.entry.Act.TheVariants.{Publish, Raise, Replace}
 use Rattle.meta_journal.specs.declared.entry.Entry.{Entry}
 use Rattle.source_log.specs.Log.{Log}
 use Rattle.split_states.specs.declared.rows.Row.{Row}
-use Rattle.index_world.specs.Calls.{Call, Effect, done_at_once, done_late, done_never, is_at_once, Fate, Gives, gives, Grace, Made, made, exists, failed, Trouble, no_memory, Unmade, troubled, Unfetched, hindered, adopted_made, and_then_by, appended, asked, asked_and_looked, asked_clock, asking, begun, create_at_end, deleted_by, entry_of, fence_of, fetched, fetched_from, file_by, file_deleted, file_got, file_made, file_sought, first_unless, get_at_end, got_at, got_file, last_create, last_made, last_unless, made_at, made_behind, may_append, may_fail, or_short, settle_made, settle_with, settled, settled_and_copied, sought_by, sought_unless, taken_unless, transact, tried, troubled_by, unless_over, unless_short}
-use Rattle.index_world.specs.CallsMade.{Ask, of_checkpoints, of_moment, of_stage, of_upload, of_publish, of_replace, of_raise, of_task, of_plan, of_fetch, of_mark_stale, of_doom, of_remove, of_sweep_list, of_sweep}
-use Rattle.index_world.specs.Collecting.{Offer, adopted_offer, answered_by, appended_if, doom_call, doom_next, doomed_by, first_offer, is_swept, last_offer, list_call, next_doomed, nothing, offer_unless, removal_offer, stale_offer, sweep_call, sweep_if, swept_unless, transact_if}
+use Rattle.index_world.specs.Calls.{Call, Effect, Fault, faulted, is_expired, is_foreign, is_full, store_fault, done_at_once, done_late, done_never, is_at_once, Fate, Gives, gives, Grace, Made, made, exists, failed, Trouble, no_memory, Unmade, troubled, Unfetched, hindered, adopted_made, and_then_by, appended, asked, asked_and_looked, asked_clock, asking, begun, create_at_end, deleted_by, entry_of, fence_of, fetched, fetched_from, file_by, file_deleted, file_got, file_made, file_sought, first_unless, get_at_end, got_at, got_file, last_create, last_made, last_unless, made_at, made_behind, may_append, may_fail, or_short, settle_made, settle_with, settled, settled_and_copied, sought_by, sought_unless, taken_unless, transact, tried, troubled_by, unless_over, unless_short}
+use Rattle.index_world.specs.CallsMade.{Ask, of_checkpoints, of_moment, of_stage, of_upload, of_publish, of_replace, of_raise, of_task, of_plan, of_fetch, of_mark_stale, of_retire, of_snapshot, of_doom, of_remove, of_sweep_list, of_sweep}
+use Rattle.index_world.specs.Collecting.{Offer, adopted_offer, answered_by, appended_if, doom_call, doom_next, doomed_by, first_offer, is_swept, last_offer, list_call, next_doomed, nothing, offer_unless, removal_offer, retire_offer, stale_offer, sweep_call, sweep_if, swept_unless, transact_if}
 use Rattle.index_world.specs.Core.{Core, late_entry, late_file, file_at}
 use Rattle.index_world.specs.Gate.{IsSoundCore, stage_act, task_act}
+use Rattle.index_world.specs.Snapping.{is_snap_due, snap_bytes, snap_if, snap_made, snap_unless, snapshot_call, written_by}
 use Rattle.index_world.proofs.StoreChanges.{All-snoc}
 use Rattle.shared_gate.specs.Recording.{RanBy, clocked_at}
 use Rattle.shared_gate.specs.Sharing.{IsLife, Passes, Step, last_core}
@@ -268,6 +269,35 @@ sweep_low number fate core low = swept_low fate.unasked number fate core low
 pub list_low : (fate : Fate) (core : Core) → IsLowCore core → IsLowCore (list_call fate core).core
 list_low fate core low = file_got_low fate.first core low
 
+-- ---- a snapshot
+
+written_low : (revision : ℕ) (r : Result ⊤ Trouble) (core : Core) → IsLowCore core → IsLowCore (written_by revision r core).core
+written_low revision (Ok done) core low = low
+written_low revision (Err (faulted (is_foreign key))) core low = low
+written_low revision (Err (faulted (store_fault before after))) core low = low
+written_low revision (Err (faulted is_full)) core low = low
+written_low revision (Err (faulted (is_expired planned_at now))) core low = low
+written_low revision (Err no_memory) core low = low
+
+snap_made_low : (call : Call) (before : ℕ) (core : Core) → IsLowCore core → IsLowCore (snap_made call before core).core
+snap_made_low call before core low =
+    let given = file_by (may_fail call core.store_faults) call.effect (is_some (file_at (begun call core).files (snap_key (length core.history)))) before (snap_key (length core.history)) (snap_bytes core.history) (begun call core) in
+    or_short_low call.short no_memory call core _ low
+    (written_low (length core.history) given.answer given.core (file_low (may_fail call core.store_faults) call.effect (is_some (file_at (begun call core).files (snap_key (length core.history)))) before (snap_key (length core.history)) (snap_bytes core.history) (begun call core) (low_begun call core low)))
+
+snap_if_low : (due : Bool) (call : Call) (before : ℕ) (core : Core) → IsLowCore core → IsLowCore (snap_if due call before core).core
+snap_if_low true call before core low = snap_made_low call before core low
+snap_if_low false call before core low = low
+
+snap_unless_low : (unasked : Bool) (fate : Fate) (core : Core) → IsLowCore core → IsLowCore (snap_unless unasked fate core).core
+snap_unless_low true fate core low = low
+snap_unless_low false fate core low =
+    let given = settled fate.first fate.second core in
+    then_low given.answer given.core (λ c. snap_if (is_snap_due c) fate.third core.store_faults c) (settle_low core.unsure fate.first fate.second core low) (λ c l. snap_if_low (is_snap_due c) fate.third core.store_faults c l)
+
+pub snapshot_low : (fate : Fate) (core : Core) → IsLowCore core → IsLowCore (snapshot_call fate core).core
+snapshot_low fate core low = snap_unless_low fate.unasked fate core low
+
 -- ---- any call
 
 pub ran_low : (ask : Ask) (fate : Fate) (core after : Core) → RanBy ask fate core after → IsLowCore core → IsLowCore after
@@ -282,6 +312,8 @@ ran_low (of_task delete) fate core after ran low = subst IsLowCore ran (appended
 ran_low (of_plan choice) fate core after ran low = subst IsLowCore ran (asked_and_looked_low fate core low)
 ran_low (of_fetch number from len) fate core after ran low = subst IsLowCore ran.1 (fetched_low ran.0 number fate core low)
 ran_low of_mark_stale fate core after ran low = subst IsLowCore ran (appended_if_low 0 stale_offer fate core low)
+ran_low of_retire fate core after ran low = subst IsLowCore ran (appended_if_low 0 retire_offer fate core low)
+ran_low of_snapshot fate core after ran low = subst IsLowCore ran (snapshot_low fate core low)
 ran_low of_doom fate core after ran low = subst IsLowCore ran (doom_low fate core low)
 ran_low of_remove fate core after ran low = subst IsLowCore ran (appended_if_low 0 removal_offer fate core low)
 ran_low (of_sweep_list behind) fate core after ran low = subst IsLowCore ran (list_low fate core low)

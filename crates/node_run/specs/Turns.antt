@@ -3,7 +3,7 @@ use Rattle.std.specs.Prelude.{◌≡◌, ℕ, Bool, true, false, List, [], ◌�
 use Rattle.meta_journal.specs.declared.entry.Entry.{Entry}
 use Rattle.meta_store.specs.History.{history, moment_of}
 use Rattle.source_log.specs.Log.{Log}
-use Rattle.index_world.specs.Calls.{Fate, calm_fate, faulted, no_memory, Unread, not_read, Gives, loaded}
+use Rattle.index_world.specs.Calls.{Fate, calm_fate, faulted, no_memory, Unread, not_read, Gives, loaded, snap_upto}
 use Rattle.index_world.specs.Calls as calls
 use Rattle.index_world.specs.Core.{Core, File, Late}
 use Rattle.indexing_run.specs.Places.{IndexerPlace, idle, reading, staged, uploaded, Indexer}
@@ -345,6 +345,7 @@ opened_core o =
       late = o.late;
       marks = [];
       doomed = [];
+      snapped = snap_upto o.files (length o.history);
     }
 
 abbrev pub opened_node : Opening → Node

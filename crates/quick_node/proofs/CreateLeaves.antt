@@ -71,7 +71,7 @@ module _ (history : List Entry) (before : Before) (moment : ℕ) (i : IsIndexOf 
   -- the core of the store at entry
   abbrev pub first_core : Core
   first_core =
-      record { history = history; store_faults = before.store_faults; moment = moment_of (told_by history); clock = moment; frozen = false; files = o.files; unsure = false; standing = None; late = o.late; marks = []; doomed = [] }
+      record { history = history; store_faults = before.store_faults; moment = moment_of (told_by history); clock = moment; frozen = false; files = o.files; unsure = false; standing = None; late = o.late; marks = []; doomed = []; snapped = 0 }
 
   pub first_world : IsWorld before.kept first_core before.log
   first_world = o.world

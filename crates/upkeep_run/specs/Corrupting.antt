@@ -12,7 +12,7 @@ use Rattle.split_bundle.specs.Splits.{IsSplit}
 use Rattle.split_bundle.specs.declared.placed.Placed.{Placed}
 use Rattle.split_merge.specs.Keeping.{joined}
 use Rattle.std.specs.Prelude.{length}
-use Rattle.index_world.specs.Answering.{Answered, doom_answered, fetch_answered, list_answered, mark_stale_answered, marks_answered, moment_answered, plan_answered, publish_answered, raise_answered, remove_answered, replace_answered, stage_answered, sweep_answered, task_answered, tasks_answered, upload_answered}
+use Rattle.index_world.specs.Answering.{Answered, doom_answered, fetch_answered, list_answered, mark_stale_answered, retire_answered, snapshot_answered, marks_answered, moment_answered, plan_answered, publish_answered, raise_answered, remove_answered, replace_answered, stage_answered, sweep_answered, task_answered, tasks_answered, upload_answered}
 use Rattle.index_world.specs.declared.world_error.WorldError.{WorldError}
 use Rattle.index_world.specs.declared.world_error.WorldError.TheVariants as errors
 use Rattle.upkeep_run.specs.Asking.{whole}
@@ -46,6 +46,8 @@ error_of (task_answered ask result) = error_in result
 error_of (plan_answered choice result) = error_in result
 error_of (tasks_answered upto result) = None
 error_of (mark_stale_answered result) = error_in result
+error_of (retire_answered result) = error_in result
+error_of (snapshot_answered result) = error_in result
 error_of (doom_answered result) = error_in result
 error_of (remove_answered result) = error_in result
 error_of (list_answered behind result) = error_in result

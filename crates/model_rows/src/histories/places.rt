@@ -34,7 +34,7 @@ fn fence(moment: u64) -> Entry
 }
 
 fn opened<S: ObjectStore>(alloc: Global, store: &mut S) -> Result<Journal, JournalError> {
-    let (journal, _) = Journal::load(alloc, store)?;
+    let (journal, _) = Journal::load(alloc, store, 0)?;
     Ok(journal)
 }
 

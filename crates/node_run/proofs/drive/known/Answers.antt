@@ -13,7 +13,7 @@ use Rattle.node_run.proofs.Places.{as_many, named_at, not_named, put_behind}
 use Rattle.node_run.proofs.drive.known.Goals as goal
 
 abbrev some_core : Core
-some_core = record { history = []; store_faults = 0; moment = 0; clock = 0; frozen = false; files = []; unsure = false; standing = None; late = []; marks = []; doomed = [] }
+some_core = record { history = []; store_faults = 0; moment = 0; clock = 0; frozen = false; files = []; unsure = false; standing = None; late = []; marks = []; doomed = []; snapped = 0 }
 
 pub returns-in-Some-clause-known : goal.returns-in-Some-clause-known
 returns-in-Some-clause-known c = λ models core log z has.
