@@ -11,7 +11,7 @@ use Rattle.meta_journal.specs.declared.place.JournalPlace.TheVariants.{Sure, Uns
 use Rattle.meta_store.proofs.Answered.{answered}
 use Rattle.meta_store.specs.Answers.{answer_to, HasNumbers}
 use Rattle.meta_store.specs.History.{History, history}
-use Rattle.meta_store.specs.Readings.{config_of}
+use Rattle.meta_store.specs.Readings.{config_of, reading_of}
 use Rattle.meta_store.specs.State.{Legal, MayCome, MayFollow, state_of, after}
 use Rattle.meta_store.specs.State as meta
 use Rattle.meta_store.specs.declared.config.Config.{Config}

@@ -1,5 +1,5 @@
 -- What the objects of a journal are, by what a load of it read behind a snapshot.
-use Rattle.std.proofs.Common.{◌≡◌, ◌⊎◌, ℕ, zero, suc, ◌+◌, ◌<◌, ◌≤◌, List, [], ◌∷◌, refl, sym, ap, ◌∙◌, subst, inl, inr, length, arith, add-zero, zero-add, Bool, true}
+use Rattle.std.proofs.Common.{◌≡◌, ◌⊎◌, ℕ, zero, suc, ◌+◌, ◌-◌, ◌<◌, ◌≤◌, List, [], ◌∷◌, refl, sym, ap, ◌∙◌, subst, inl, inr, length, arith, add-zero, zero-add, Bool, true}
 use Rattle.std.specs.Result.{IsErrAnd}
 use Rattle.std.specs.Prelude.{Option, Some, None, IsSome, is_some, Result, Ok, Err, ⊤}
 use Rattle.byte_fields.specs.Causes.{Rose}
@@ -14,7 +14,7 @@ use Rattle.meta_journal.specs.declared.journal_error.JournalError.TheVariants as
 use Rattle.meta_store.specs.State as meta
 use Rattle.object_store.proofs.Landings.{HasLanded-trans}
 use Rattle.object_store.specs.Store.{State, HasLanded, WhereTold}
-use Rattle.index_world.specs.Opened.{all_found, bad_at, before_rest, entries_from, first_refused, found_by, found_of, state_behind, ObjectsFrom, Finds, BeginsAt, OpensIndex, OpensNot, OpensAnew}
+use Rattle.index_world.specs.Opened.{Found, all_found, bad_at, before_rest, entries_from, first_refused, found_by, found_of, state_behind, ObjectsFrom, Finds, BeginsAt, OpensIndex, OpensNot, OpensAnew}
 use Rattle.index_world.specs.Core.{Marking, taken_at, is_in}
 use Rattle.index_world.specs.Life.{FindsLife, NotesNothing, OpensTo}
 use Rattle.index_world.specs.Starting.{BeginsNot}
@@ -176,7 +176,7 @@ module _ (snapped : ℕ) (start : meta.State) (old mid new : State) (b : BeginsA
         mid = mid;
         begins = subst (λ (k : ℕ). BeginsAt k start old mid) (sym last) b;
         entries = es;
-        finds = subst (λ (f : _). Finds start f mid new) (ap (found_by start.revision es) none ∙ found_some start.revision es some) (finds_loaded start es mid new l);
+        finds = subst (λ (f : Found). Finds start f mid new) (ap (found_by start.revision es) none ∙ found_some start.revision es some) (finds_loaded start es mid new l);
         next = ap (λ (x : Numbered). x.next) j;
         unsure = ap (λ (x : Numbered). is_unsure x.place) j;
         meta = m;

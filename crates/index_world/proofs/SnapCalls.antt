@@ -14,7 +14,7 @@ use Rattle.source_log.specs.Log.{Log}
 use Rattle.index_world.specs.Calls.{Effect, done_at_once, done_late, done_never, Call, gives, Trouble, no_memory, store_failed, begun, file_by, with_file, may_fail}
 use Rattle.index_world.specs.Calls as calls
 use Rattle.index_world.specs.Core.{Core, late_file, file_at, clock_of, Upkeep, upkeep_of, journal_of}
-use Rattle.index_world.specs.Held.{All, KeepsHeld, Goes}
+use Rattle.index_world.specs.Held.{All, KeepsHeld, Goes, NoneAtEnd}
 use Rattle.index_world.specs.Index.{IsIndexOf, IsLateKey, IsLateEntry, IsNotLate, IsFound, OneEntry, is_split}
 use Rattle.index_world.specs.Onward.{Onward}
 use Rattle.index_world.specs.Snapping.{snap_bytes, snap_made, with_snapped, written}

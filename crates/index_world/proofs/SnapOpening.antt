@@ -26,7 +26,7 @@ use Rattle.meta_store.specs.Restoring.{CanRestore}
 use Rattle.meta_store.specs.State.{Legal, state_of}
 use Rattle.meta_store.specs.State as meta
 use Rattle.object_store.proofs.Landings.{HasLanded-refl}
-use Rattle.object_store.specs.Store.{State, HasLanded}
+use Rattle.object_store.specs.Store.{State, HasLanded, is_behind}
 use Rattle.source_log.specs.Log.{Log}
 use Rattle.index_world.specs.Calls.{last_snap, snap_upto}
 use Rattle.index_world.specs.Config.{reads}
@@ -160,7 +160,7 @@ begun_sound (suc n) start old mid b =
     none_above : (core : Core) (log : Log) (w : IsWorld b.1.mid core log) (k : ℕ) → suc n < k → k ≤ length (journal_of core) → (x : Option (List ℕ)) → get b.1.mid.objects (snap_key k) ≡ x → is_some (file_at core.files (snap_key k)) ≡ false
     none_above core log w k above upto None e = ap is_some (w.stands_for.files (snap_key k) (snap_no_meta k) ∙ e)
     none_above core log w k above upto (Some bytes) e =
-        let not : _ = b.1.greatest (snap_key k) (snap_begins k) (ap is_some e) in
+        let not : is_behind (Some (snap_key (suc n))) (snap_key k) ≡ false = b.1.greatest (snap_key k) (snap_begins k) (ap is_some e) in
         let within : length (journal_of core) ≤ 10000000 = w.index.stands.within in
         let behind = ap is_lt (snap_keys_rise (suc n) k above (omega (arith, upto, within))) in
         absurd (true_is_false (sym behind ∙ not))
