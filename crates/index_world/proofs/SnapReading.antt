@@ -45,7 +45,7 @@ use Rattle.index_world.proofs.StoreKeys.{true_is_false}
 -- ---- its bytes
 
 -- two readings of one snapshot are one
-parts_once : (bytes : List ℕ) (a b : StateParts) → parts_in bytes ≡ Ok a → parts_in bytes ≡ Ok b → a ≡ b
+pub parts_once : (bytes : List ℕ) (a b : StateParts) → parts_in bytes ≡ Ok a → parts_in bytes ≡ Ok b → a ≡ b
 parts_once bytes a b e f = let both : ◌≡◌ {A = Result StateParts EntryError} (Ok a) (Ok b) = sym e ∙ f in cc
 
 -- under another number there is none

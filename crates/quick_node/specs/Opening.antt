@@ -3,12 +3,10 @@
 use Rattle.std.specs.Prelude.{◌≡◌, ◌≢◌, ◌⊎◌, ℕ, ◌<◌, ◌≤◌, List, ◌++◌, length, Option, Some, IfSome}
 use Rattle.meta_journal.specs.Loading.{IsForeign}
 use Rattle.meta_journal.specs.declared.entry.Entry.{Entry}
-use Rattle.meta_store.specs.History.{history}
-use Rattle.meta_store.specs.State.{state_of}
+use Rattle.meta_store.specs.State as meta
 use Rattle.object_store.specs.Store.{State, WhereTold}
-use Rattle.index_world.specs.Config.{reads}
 use Rattle.index_world.specs.Created.{IsToldBy, Begins, MakesFirst, CreatesNot}
-use Rattle.index_world.specs.Opened.{none_found, all_found, bad_at, found_in, Finds, OpensNot}
+use Rattle.index_world.specs.Opened.{none_found, all_found, bad_at, found_from, state_behind, Behind, Finds, OpensNot}
 use Rattle.index_world.specs.declared.world_error.WorldError.{WorldError}
 use Rattle.quick_node.specs.Creating.{IsCreate, SaysCreated}
 use Rattle.quick_node.specs.Ending.{EndsSo, ended_status}
@@ -48,12 +46,16 @@ OutputStays before after = (after.output ≡ before.output) × (after.write_faul
 
 -- ---- an index that is opened
 
--- the store was found to be an index of some entries
-abbrev pub IsFound : Option State → Type 0
-IsFound told = IfSome told (λ old. (entries : List Entry) × (new : State) × Finds (all_found entries) old new)
+-- behind the last snapshot entries of an index were found
+abbrev pub FindsEntries : meta.State → State → State → Type 0
+FindsEntries start mid new = (entries : List Entry) × Finds start (all_found entries) mid new
 
--- Why none was opened, by the error: the objects of the journal are none, or no index up to this key, another key stands beside
--- them, or the store failed. Nothing was read of the input, and this is the line.
+-- the store was found to be an index: of a snapshot, or of entries, or of both
+abbrev pub IsFound : Option State → Type 0
+IsFound told = IfSome told (λ old. (new : State) × Behind FindsEntries old new)
+
+-- Why none was opened, by the error: no snapshot stands and the objects of the journal are none, or they or the last snapshot are no index up
+-- to this key, another key stands beside them, or the store failed. Nothing was read of the input, and this is the line.
 pub record OpensNone (Line : Ended → Type 0) (before after : Outside) (error : WorldError) : Type 0 where
   pub why : WhereTold before.store after.store (OpensNot before.store_faults after.store_faults error)
   pub input : InputStays before after
@@ -76,10 +78,13 @@ DriveFinds Line before after ended.Memory = IsFound before.store ⊎ (StoreStays
 
 -- the report on the state of the entries that were found was written, a front of it where a write failed, or nothing without
 -- memory for it
-abbrev pub ReportsFound : Report → Outside → Outside → Ended → State → State → Type 0
-ReportsFound asked before after end old new = (entries : List Entry) × Finds (all_found entries) old new
+abbrev pub SaysFound : Report → Outside → Outside → Ended → meta.State → State → State → Type 0
+SaysFound asked before after end start mid now = (entries : List Entry) × Finds start (all_found entries) mid now
     × ((held : List ℕ) → before.output ≡ Some held → (said : List ℕ) × (after.output ≡ Some (held ++ said))
-    × SaysReport (report_text asked (state_of reads (history entries))) before.write_faults after.write_faults said end)
+    × SaysReport (report_text asked (state_behind start entries)) before.write_faults after.write_faults said end)
+
+abbrev pub ReportsFound : Report → Outside → Outside → Ended → State → State → Type 0
+ReportsFound asked before after end old new = Behind (SaysFound asked before after end) old new
 
 -- a report ends so
 abbrev pub ReportFinds : Report → (Ended → Type 0) → Outside → Outside → Ended → Type 0
@@ -152,7 +157,7 @@ pub record EndsBy (Says : (Ended → Type 0) → Outside → Outside → Ended �
   pub says : Says (SaysAlone before after status) before after end
 
 -- So ends each command over every store, between what the outside tells before the call and behind it. Status 7 comes with the line
--- of the key that the store was found to have, exactly where it was found to be no index; 8 exactly where it has no entry.
+-- of the key that the store was found to have, exactly where it was found to be no index; 8 exactly where it has no snapshot and no entry.
 pub record Opening (given : List (List ℕ)) (clock : Option ℕ) (before after : Outside) (status : ℕ) : Type 0 where
   pub drive : IsDrive given → EndsBy DriveFinds before after status
   pub create : IsCreate given → EndsBy (CreateFinds clock) before after status
@@ -160,9 +165,9 @@ pub record Opening (given : List (List ℕ)) (clock : Option ℕ) (before after 
 
 -- ---- where nothing is late
 
--- What a status says of the objects of a journal: with 8 there are none, with 7 one of them is no entry of an index or another key
+-- What a status says of the objects of a journal behind a state, that of the last snapshot or the one before all entries: with 8 there are none, with 7 one of them is no entry of an index or another key
 -- stands beside them, and with each other but those of a fault of the store and of want of memory they are the entries of an index.
-pub record TellsFound (old : State) (objects : List (List ℕ)) (status : ℕ) : Type 0 where
-  pub index : status ≢ 4 → status ≢ 7 → status ≢ 8 → status ≢ 11 → (entries : List Entry) × (found_in objects ≡ all_found entries)
-  pub none : status ≡ 8 → found_in objects ≡ none_found
-  pub bad : status ≡ 7 → ((n : ℕ) × (found_in objects ≡ bad_at n)) ⊎ ((key : List ℕ) × IsForeign old key)
+pub record TellsFound (old : State) (start : meta.State) (objects : List (List ℕ)) (status : ℕ) : Type 0 where
+  pub index : status ≢ 4 → status ≢ 7 → status ≢ 8 → status ≢ 11 → (entries : List Entry) × (found_from start objects ≡ all_found entries)
+  pub none : status ≡ 8 → found_from start objects ≡ none_found
+  pub bad : status ≡ 7 → ((n : ℕ) × (found_from start objects ≡ bad_at n)) ⊎ ((key : List ℕ) × IsForeign start.revision old key)

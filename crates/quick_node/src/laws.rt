@@ -11,7 +11,8 @@ ghost use Rattle.meta_journal.specs.declared.entry.Entry.{Entry};
 ghost use Rattle.object_store.specs.Store.{State, with_object};
 ghost use Rattle.source_log.specs.Log.{Log, IsLog};
 ghost use Rattle.index_world.specs.Index.{IsIndexOf};
-ghost use Rattle.index_world.specs.Opened.{ObjectsFrom};
+ghost use Rattle.meta_store.specs.State as meta;
+ghost use Rattle.index_world.specs.Opened.{BeginsAt, ObjectsFrom};
 ghost use Rattle.root_search.specs.declared.outcome.SearchStep.TheVariants.{Replied};
 ghost use Rattle.search_api.specs.declared.reply.Reply.{Reply};
 ghost use Rattle.node_run.specs.Node.{Node, Line, StepClient, Outcome, client_said};
@@ -114,14 +115,17 @@ pub fn a_run_ends_as_the_call_did()
         HasRunEnd (length before.log_faults) before.input after.left counts lines end → HasEnd before after lines end }
 {}
 
-/// Where nothing is late, the status of `drive` says what the objects of the journal are.
+/// Where nothing is late, the status of `drive` says what the objects of the journal are behind the last snapshot, where that has a state, or
+/// behind the state before all entries, where none stands.
 pub fn the_status_of_drive_tells_the_objects()
-    ensures { (old : State) (objects : List (List ℕ)) → old.late ≡ [] → ObjectsFrom old 0 objects → (outside later : Outside) (status : ℕ) →
-        outside.store ≡ Some old → EndsBy DriveFinds outside later status → TellsFound old objects status }
+    ensures { (old : State) (snapped : ℕ) (start : meta.State) (objects : List (List ℕ)) → old.late ≡ [] → BeginsAt snapped start old old →
+        ObjectsFrom old start.revision objects → (outside later : Outside) (status : ℕ) →
+        outside.store ≡ Some old → EndsBy DriveFinds outside later status → TellsFound old start objects status }
 {}
 
 /// So does that of a report.
 pub fn the_status_of_a_report_tells_the_objects()
-    ensures { (old : State) (objects : List (List ℕ)) → old.late ≡ [] → ObjectsFrom old 0 objects → (asked : Report) (outside later : Outside) (status : ℕ) →
-        outside.store ≡ Some old → EndsBy (ReportFinds asked) outside later status → TellsFound old objects status }
+    ensures { (old : State) (snapped : ℕ) (start : meta.State) (objects : List (List ℕ)) → old.late ≡ [] → BeginsAt snapped start old old →
+        ObjectsFrom old start.revision objects → (asked : Report) (outside later : Outside) (status : ℕ) →
+        outside.store ≡ Some old → EndsBy (ReportFinds asked) outside later status → TellsFound old start objects status }
 {}
