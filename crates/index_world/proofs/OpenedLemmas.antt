@@ -151,9 +151,9 @@ module _ (snapped : ℕ) (start : meta.State) (old mid new : State) (b : BeginsA
       by journal.Full fault l = l
 
   pub opens_empty : (es : List Entry) (n now : ℕ) → start.revision ≡ 0 → es ≡ [] → LoadsEntries start.revision (Ok es) mid new → OpensTo n now (Err errors.NoIndex) old new
-  opens_empty es n now zero none l =
+  opens_empty es n now first none l =
       let found = finds_loaded start [] mid new (subst (λ (xs : List Entry). IsLoaded start.revision xs mid new) none l) in
-      (snapped, start, mid, b, subst (λ (k : ℕ). Finds start (found_by k [] None) mid new) zero found)
+      (snapped, start, mid, b, subst (λ (k : ℕ). Finds start (found_by k [] None) mid new) first found)
 
   pub opens_refused : (es : List Entry) (n now : ℕ) (error : WorldError) → IsRefusedAt (first_refused start es) error → LoadsEntries start.revision (Ok es) mid new → OpensTo n now (Err error) old new
   opens_refused es n now (errors.Memory a) r l = HasLanded-trans old mid new (begun_landed snapped start old mid b) (HasLanded-trans mid l.mid new l.before l.behind)

@@ -134,8 +134,8 @@ module _ (old : State) (core : Core) (log : Log) (n now : ℕ) (told told' : Opt
       read_timely = timely_from l.mid start.revision read None l.journal
 
       pub opening_empty : start.revision ≡ 0 → read ≡ [] → Opening core log (Err errors.NoIndex) told' now
-      opening_empty zero none =
-          let nothing : whole old core log w snapped start mid b new read l ≡ [] = no_entry_left (whole old core log w snapped start mid b new read l) (let c = count in let e = ap length none in omega (arith, c, e, zero)) in
+      opening_empty first none =
+          let nothing : whole old core log w snapped start mid b new read l ≡ [] = no_entry_left (whole old core log w snapped start mid b new read l) (let c = count in let e = ap length none in omega (arith, c, e, first)) in
           record {
             new = new;
             tells = t;

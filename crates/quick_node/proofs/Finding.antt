@@ -48,7 +48,7 @@ alone before after content mid status end same count writes held at =
 pub opened_found : (told told' : Option State) (world : Keeping) → WhereTold told told' (OpensIndex world) → IsFound told
 opened_found None told' world w = tt
 opened_found (Some old) None world w = absurd w
-opened_found (Some old) (Some new) world w = (w.entries, new, w.finds)
+opened_found (Some old) (Some new) world w = (new, (world.snapped, w.start, w.mid, w.begins, (w.entries, w.finds)))
 
 -- ---- a run over lines
 
@@ -72,12 +72,12 @@ pub found_report : (asked : Report) (before after : Outside) (world : Keeping) (
     ((held : List ℕ) → before.output ≡ Some held → (said : List ℕ) × (after.output ≡ Some (held ++ said)) × SaysReport (report_text asked world.meta) before.write_faults after.write_faults said end) →
     WhereTold before.store after.store (ReportsFound asked before after end)
 found_report asked before after world end opened says =
-    told_map before.store after.store {P = OpensIndex world} {Q = ReportsFound asked before after end} (λ old new o. (
+    told_map before.store after.store {P = OpensIndex world} {Q = ReportsFound asked before after end} (λ old new o. (world.snapped, o.start, o.mid, o.begins, (
       o.entries,
       o.finds,
       λ held at.
           subst (λ (s : meta.State). (said : List ℕ) × (after.output ≡ Some (held ++ said)) × SaysReport (report_text asked s) before.write_faults after.write_faults said end) o.meta (says held at),
-    )) opened
+    ))) opened
 
 pub written_finds : (asked : Report) (Line : Ended → Type 0) (before after : Outside) (end : Ended) → EndsWriting end → WhereTold before.store after.store (ReportsFound asked before after end) → ReportFinds asked Line before after end
 written_finds asked Line before after ended.Done k w = w
@@ -173,7 +173,7 @@ module _ (before : Outside) (store : Option State) (count : ℕ) (input : Option
 
   pub report_ends : (asked : Report) (end : Ended) → Writes end → BeforeLine (ReportFinds asked) before between end → ReportFinds asked (SaysAlone before exit status) before exit end
   report_ends asked ended.Done writes f =
-      told_map before.store store {P = ReportsFound asked before between ended.Done} {Q = ReportsFound asked before exit ended.Done} (λ old new r. (r.0, r.1, λ held at. done_on held _ writes (r.2 held at))) f
+      told_map before.store store {P = ReportsFound asked before between ended.Done} {Q = ReportsFound asked before exit ended.Done} (λ old new r. (r.0, r.1, r.2, r.3, (r.4.0, r.4.1, λ held at. done_on held _ writes (r.4.2 held at)))) f
   report_ends asked ended.BadWords writes f = absurd f
   report_ends asked (ended.BadLine number) writes f = absurd f
   report_ends asked ended.ClientsOver writes f = absurd f
@@ -184,9 +184,9 @@ module _ (before : Outside) (store : Option State) (count : ℕ) (input : Option
   report_ends asked (ended.NotMade error) writes f = absurd f
   report_ends asked ended.ReadFault writes f = absurd f
   report_ends asked ended.WriteFault writes f =
-      told_map before.store store {P = ReportsFound asked before between ended.WriteFault} {Q = ReportsFound asked before exit ended.WriteFault} (λ old new r. (r.0, r.1, λ held at. fault_on held _ writes (r.2 held at))) f
+      told_map before.store store {P = ReportsFound asked before between ended.WriteFault} {Q = ReportsFound asked before exit ended.WriteFault} (λ old new r. (r.0, r.1, r.2, r.3, (r.4.0, r.4.1, λ held at. fault_on held _ writes (r.4.2 held at)))) f
   report_ends asked ended.Memory writes (inl f) =
-      inl (told_map before.store store {P = ReportsFound asked before between ended.Memory} {Q = ReportsFound asked before exit ended.Memory} (λ old new r. (r.0, r.1, λ held at. memory_on held writes (r.2 held at))) f)
+      inl (told_map before.store store {P = ReportsFound asked before between ended.Memory} {Q = ReportsFound asked before exit ended.Memory} (λ old new r. (r.0, r.1, r.2, r.3, (r.4.0, r.4.1, λ held at. memory_on held writes (r.4.2 held at)))) f)
   report_ends asked ended.Memory writes (inr f) = inr f
 
   created_on : (held : List ℕ) → Writes ended.Done → (said : List ℕ) × (content ≡ Some (held ++ said)) × SaysCreated before.write_faults mid said ended.Done →

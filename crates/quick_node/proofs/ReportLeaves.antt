@@ -1,15 +1,17 @@
 -- What a report leaves before the last line, in the words of its command.
-use Rattle.std.proofs.Common.{◌≡◌, ℕ, ◌<◌, List, [], ◌∷◌, ◌++◌, length, refl, sym, ap, ◌∙◌, subst, append-nil, arith}
+use Rattle.std.proofs.Common.{◌≡◌, ℕ, ◌<◌, List, [], ◌∷◌, ◌++◌, length, refl, sym, ap, ◌∙◌, subst, append-nil, arith, inl, inr}
 use Rattle.std.specs.Prelude.{Option, Some, None, Err}
 use Rattle.byte_fields.specs.Causes.{Rose}
 use Rattle.meta_journal.specs.declared.entry.Entry.{Entry}
+use Rattle.meta_store.specs.State as meta
 use Rattle.object_store.proofs.Landings.{HasLanded-trans}
 use Rattle.object_store.specs.Store.{State, HasLanded, WhereTold}
 use Rattle.index_world.specs.Calls.{Unread, gives}
 use Rattle.index_world.specs.Core.{Core, with_unread, journal_of}
 use Rattle.index_world.specs.Index.{IsIndexOf}
 use Rattle.index_world.specs.Loading.{LoadsWorld, LoadsNone}
-use Rattle.index_world.specs.Opened.{Found, none_found, Finds, OpensIndex, OpensNot}
+use Rattle.index_world.specs.Opened.{Found, none_found, BeginsAt, Finds, IsSpoiltSnap, OpensIndex, OpensNot}
+use Rattle.index_world.proofs.OpenedLemmas.{begun_landed}
 use Rattle.index_world.specs.Taking.{IsFaultBetween}
 use Rattle.index_world.specs.World.{Keeping}
 use Rattle.index_world.specs.declared.world_error.WorldError.{WorldError}
@@ -24,19 +26,24 @@ use Rattle.quick_node.proofs.CreateLeaves.{first_core, unread_on}
 
 -- ---- opening writes nothing
 
-found_landed : (found : Found) (old new : State) → Finds found old new → HasLanded old new
-found_landed found old new f = HasLanded-trans old f.mid new f.before f.behind
+found_landed : (snapped : ℕ) (start : meta.State) (found : Found) (old mid new : State) → BeginsAt snapped start old mid → Finds start found mid new → HasLanded old new
+found_landed snapped start found old mid new b f = HasLanded-trans old mid new (begun_landed snapped start old mid b) (HasLanded-trans mid f.mid new f.before f.behind)
+
+spoilt_landed : (key : List ℕ) (old new : State) → IsSpoiltSnap key old new → HasLanded old new
+spoilt_landed key old new z = HasLanded-trans old z.last.mid new z.last.before z.last.behind
 
 unopened_landed : (before now : ℕ) (error : WorldError) (old new : State) → OpensNot before now error old new → HasLanded old new
 unopened_landed before now (errors.Memory e) old new n = n
 unopened_landed before now (errors.Refused refusal) old new n = absurd n
 unopened_landed before now (errors.StoreFault low high) old new n = n.0
 unopened_landed before now (errors.Missing key) old new n = absurd n
-unopened_landed before now (errors.Corrupt key) old new n = found_landed _ old new n.2
-unopened_landed before now (errors.Foreign key) old new n = n.0
+unopened_landed before now (errors.Corrupt key) old new (inl z) = spoilt_landed key old new z
+unopened_landed before now (errors.Corrupt key) old new (inr n) = found_landed n.0 n.1 _ old n.2 new n.3 n.4.2
+unopened_landed before now (errors.Foreign key) old new (inl z) = z.landed
+unopened_landed before now (errors.Foreign key) old new (inr n) = HasLanded-trans old n.2 new (begun_landed n.0 n.1 old n.2 n.3) n.4.0
 unopened_landed before now errors.Full old new n = absurd n
 unopened_landed before now (errors.Expired planned_at reached) old new n = absurd n
-unopened_landed before now errors.NoIndex old new n = found_landed none_found old new n
+unopened_landed before now errors.NoIndex old new n = found_landed n.0 n.1 none_found old n.2 new n.3 n.4
 unopened_landed before now errors.IndexExists old new n = absurd n
 unopened_landed before now (errors.BadConfig bad) old new n = absurd n
 
@@ -46,7 +53,7 @@ told_landed (Some old) None Says by w = absurd w
 told_landed (Some old) (Some new) Says by w = by old new w
 
 pub opens_landed : (told told' : Option State) (world : Keeping) → WhereTold told told' (OpensIndex world) → WhereTold told told' HasLanded
-opens_landed told told' world w = told_landed told told' (OpensIndex world) (λ old new o. found_landed _ old new o.finds) w
+opens_landed told told' world w = told_landed told told' (OpensIndex world) (λ old new o. found_landed world.snapped o.start _ old o.mid new o.begins o.finds) w
 
 pub opens_not_landed : (told told' : Option State) (before now : ℕ) (error : WorldError) → WhereTold told told' (OpensNot before now error) → WhereTold told told' HasLanded
 opens_not_landed told told' before now error w = told_landed told told' (OpensNot before now error) (λ old new n. unopened_landed before now error old new n) w
