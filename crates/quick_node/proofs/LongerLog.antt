@@ -302,4 +302,4 @@ module _ (kept : State) (entries : List Entry) (log longer : Log) (is : IsLog lo
   }
 
   pub index_longer : IsIndexOf kept entries longer
-  index_longer = record { stands = stands_longer; late_entries = lates_longer log longer is was extends kept entries all_placed all_in kept.late index.late_entries }
+  index_longer = record { stands = stands_longer; late_entries = lates_longer log longer is was extends kept entries all_placed all_in kept.late index.late_entries; snaps = index.snaps }
