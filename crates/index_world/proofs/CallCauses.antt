@@ -3,7 +3,7 @@ use Rattle.std.proofs.Common.{◌≡◌, ◌⊎◌, inl, inr, ℕ, ◌+◌, ◌�
 use Rattle.std.proofs.lemmas.Bool.{eqb-true, ltb-true, or_cases}
 use Rattle.std.specs.Prelude.{Option, Some, None, Result, Ok, Err, ⊤, ◌==◌, ◌&&◌, ◌||◌, is_some, nat_le, nat_lt, slice_get}
 use Rattle.byte_fields.specs.Causes.{Rose}
-use Rattle.meta_journal.specs.Places.{split_key}
+use Rattle.meta_journal.specs.Places.{snap_key, split_key}
 use Rattle.meta_journal.specs.declared.entry.Act.{Act}
 use Rattle.meta_journal.specs.declared.entry.Entry.{Entry}
 use Rattle.meta_store.specs.declared.refusal.Refusal.{Refusal}
@@ -12,6 +12,7 @@ use Rattle.index_world.specs.Calls.{Effect, done_at_once, done_late, done_never,
 use Rattle.index_world.specs.Calls as calls
 use Rattle.index_world.specs.Collecting.{Offer, adopted_offer, answered_by, appended_if, doom_call, doom_next, doomed_by, first_offer, is_swept, last_offer, list_call, mark_stale_call, next_doomed, nothing, offer_unless, remove_call, removal_offer, stale_offer, sweep_call, sweep_if, swept_unless, transact_if}
 use Rattle.index_world.specs.Core.{Core, Late, late_entry, late_dead, late_file, last_count, file_at}
+use Rattle.index_world.specs.Snapping.{is_snap_due, snap_bytes, snap_if, snap_made, snap_unless, snapshot_call, written, written_by}
 use Rattle.index_world.proofs.Ran.{Past}
 
 -- ---- what is said of an error, by the counts before the call and behind it
@@ -401,6 +402,37 @@ sweep_by_caused false number fate core = sweep_if_caused (is_swept core number) 
 
 pub sweep_caused : (number : ℕ) (fate : Fate) (core : Core) → Caused TroubleWithin core.store_faults (sweep_call number fate core)
 sweep_caused number fate core = sweep_by_caused fate.unasked number fate core
+
+-- ---- a snapshot
+
+written_caused : (low revision : ℕ) (r : Result ⊤ Trouble) (core : Core) → Caused TroubleWithin low (gives r core) → Caused TroubleWithin low (written_by revision r core)
+written_caused low revision (Ok done) core g = record { says = tt; past = g.past }
+written_caused low revision (Err (faulted (is_foreign key))) core g = record { says = tt; past = g.past }
+written_caused low revision (Err (faulted (store_fault before after))) core g = record { says = g.says; past = g.past }
+written_caused low revision (Err (faulted is_full)) core g = record { says = g.says; past = g.past }
+written_caused low revision (Err (faulted (is_expired planned_at now))) core g = record { says = g.says; past = g.past }
+written_caused low revision (Err no_memory) core g = record { says = g.says; past = g.past }
+
+snap_made_caused : (low : ℕ) (call : Call) (core : Core) → Past low core.store_faults → Caused TroubleWithin low (snap_made call low core)
+snap_made_caused low call core past =
+    let key = snap_key (length core.history) in
+    let given = file_by (may_fail call core.store_faults) call.effect (is_some (file_at (begun call core).files key)) low key (snap_bytes core.history) (begun call core) in
+    or_short_caused low TroubleWithin call.short no_memory call core (written (length core.history) given) (λ high. tt) past
+    (written_caused low (length core.history) given.answer given.core (as_given low TroubleWithin given
+    (file_by_caused low (may_fail call core.store_faults) call.effect (is_some (file_at (begun call core).files key)) key (snap_bytes core.history) (begun call core) (begun_past low call core past) (λ may. begun_rose low call core past may))))
+
+snap_if_caused : (low : ℕ) (due : Bool) (call : Call) (core : Core) → Past low core.store_faults → Caused TroubleWithin low (snap_if due call low core)
+snap_if_caused low true call core past = snap_made_caused low call core past
+snap_if_caused low false call core past = record { says = tt; past = past }
+
+snap_unless_caused : (unasked : Bool) (fate : Fate) (core : Core) → Caused TroubleWithin core.store_faults (snap_unless unasked fate core)
+snap_unless_caused true fate core = record { says = tt; past = past_self core.store_faults }
+snap_unless_caused false fate core =
+    and_then_caused core.store_faults TroubleWithin (settled fate.first fate.second core) (λ c. snap_if (is_snap_due c) fate.third core.store_faults c) (settled_caused fate.first fate.second core)
+    (λ c p. snap_if_caused core.store_faults (is_snap_due c) fate.third c p)
+
+pub snapshot_caused : (fate : Fate) (core : Core) → Caused TroubleWithin core.store_faults (snapshot_call fate core)
+snapshot_caused fate core = snap_unless_caused fate.unasked fate core
 
 -- ---- a call that began later
 

@@ -4,20 +4,23 @@ use Rattle.std.proofs.lemmas.List.{length-map}
 use Rattle.std.specs.Prelude.{⊤}
 use Rattle.index_world.specs.Calls.{Fate, Unmade, as_unmade}
 use Rattle.index_world.specs.Collecting.{list_call, sweep_call}
+use Rattle.index_world.specs.Snapping.{snapshot_call}
 use Rattle.index_world.specs.Core.{Core}
 use Rattle.index_world.specs.Gate.{NoneBetween}
 use Rattle.split_collector.specs.Outcomes.{Outcome}
 use Rattle.split_collector.specs.Steps.{ArePassed, CallLuck, Passage, Stand, alone, end_at, ends_behind, ends_of, fates_of, first_end, luck_of, max_calls, other_ends, other_fates, outcomes, page_by, ran, stand, step_collector, stepped, turned, with_end}
-use Rattle.split_collector.specs.Turns.{Turn, behind_delete, behind_list, ended, next_behind, page_turn, to_doom, to_list, to_mark, to_remove, to_sweep}
+use Rattle.split_collector.specs.Turns.{Turn, behind_delete, behind_list, ended, next_behind, page_turn, to_doom, to_list, to_mark, to_remove, to_sweep, to_retire, to_snap, behind_snap}
 
 -- ---- behind a page that is the last no other one is listed
 
 abbrev IsClosed : Turn (Option Outcome) → Type 0
 IsClosed to_mark = ⊥
+IsClosed to_retire = ⊥
 IsClosed to_doom = ⊥
 IsClosed to_remove = ⊥
 IsClosed (to_list behind) = ⊥
 IsClosed (to_sweep number next) = next ≡ None
+IsClosed to_snap = Unit {0}
 IsClosed (ended outcome) = Unit {0}
 
 closed_page : (behind : Option (List ℕ)) (core : Core) (answer : Result ⊤ Unmade) → IsClosed (behind_list outcomes (page_by behind None core answer))
@@ -43,15 +46,24 @@ closed_sweep number next luck core last =
     let given = as_unmade (sweep_call number luck.fate core) in
     subst (λ (n : Option (List ℕ)). IsClosed (behind_delete outcomes number n given.answer)) (sym last) (closed_delete number given.answer)
 
+closed_snap : (answer : Result (Option ℕ) Unmade) → IsClosed (behind_snap outcomes answer)
+closed_snap (Ok None) = tt
+closed_snap (Ok (Some revision)) = tt
+closed_snap (Err unmade) = tt
+
 no_ends : (Between : Core → Core → Type 0) (turn : Turn (Option Outcome)) (core : Core) (ps : List Passage) → IsClosed turn → ArePassed Between turn core ps → ends_of ps ≡ []
 no_ends Between turn core [] closed passed = refl
 no_ends Between to_mark core (p ∷ ps) closed passed = absurd closed
+no_ends Between to_retire core (p ∷ ps) closed passed = absurd closed
 no_ends Between to_doom core (p ∷ ps) closed passed = absurd closed
 no_ends Between to_remove core (p ∷ ps) closed passed = absurd closed
 no_ends Between (to_list behind) core (p ∷ ps) closed passed = absurd closed
 no_ends Between (to_sweep number next) core (p ∷ ps) closed passed =
     let left = turned (to_sweep number next) p.luck p.core in
     ap (λ (end : Option (List ℕ)). with_end end (ends_of ps)) passed.2.0 ∙ no_ends Between left.turn left.core ps (closed_sweep number next p.luck p.core closed) passed.3
+no_ends Between to_snap core (p ∷ ps) closed passed =
+    let left = turned to_snap p.luck p.core in
+    ap (λ (end : Option (List ℕ)). with_end end (ends_of ps)) passed.2 ∙ no_ends Between left.turn left.core ps (closed_snap (as_unmade (snapshot_call p.luck.fate p.core)).answer) passed.3
 no_ends Between (ended outcome) core (p ∷ ps) closed passed = let none = passed.0 in absurd (cc)
 
 -- ---- each call takes its own end
@@ -69,7 +81,9 @@ list_takes (Some key) ends none = (refl, refl)
 
 takes_end : (Between : Core → Core → Type 0) (turn : Turn (Option Outcome)) (core : Core) (p : Passage) (ps : List Passage) → ArePassed Between turn core (p ∷ ps) → TakesEnd turn p ps
 takes_end Between to_mark core p ps passed = record { end = sym passed.2; others = takes_none p ps passed.2 }
+takes_end Between to_retire core p ps passed = record { end = sym passed.2; others = takes_none p ps passed.2 }
 takes_end Between to_doom core p ps passed = record { end = sym passed.2; others = takes_none p ps passed.2 }
+takes_end Between to_snap core p ps passed = record { end = sym passed.2; others = takes_none p ps passed.2 }
 takes_end Between to_remove core p ps passed = record { end = sym passed.2; others = takes_none p ps passed.2 }
 takes_end Between (to_list behind) core p ps passed =
     let left = turned (to_list behind) p.luck p.core in

@@ -7,8 +7,8 @@ use Rattle.std.specs.declared.alloc.AllocError.{AllocError}
 use Rattle.object_store.specs.Store.{is_behind}
 use Rattle.source_log.specs.Log.{Log}
 use Rattle.index_world.specs.Calls.{Fate, Gives, Trouble, Unmade, as_unmade, gives, troubled}
-use Rattle.index_world.specs.CallsMade.{CallMade, IsShort, of_doom, of_mark_stale, of_remove, of_sweep, of_sweep_list}
-use Rattle.index_world.specs.Collecting.{IsSweepPage, doom_call, is_swept, list_call, mark_stale_call, remove_call, sweep_call}
+use Rattle.index_world.specs.CallsMade.{CallMade, IsShort, of_doom, of_mark_stale, of_remove, of_sweep, of_sweep_list, of_retire}
+use Rattle.index_world.specs.Collecting.{IsSweepPage, doom_call, is_swept, list_call, mark_stale_call, remove_call, sweep_call, retire_call}
 use Rattle.index_world.specs.Core.{Core, file_at}
 use Rattle.index_world.specs.Gate.{Does, DoesWith, IsGiven, IsSoundCore, IsTrouble, IsUnmade, Says, SaysWith}
 use Rattle.index_world.specs.declared.tokens.SweepPage.{SweepPage}
@@ -18,7 +18,7 @@ use Rattle.split_collector.specs.Ending.{Told, fault_said, page_of, told, turn_o
 use Rattle.split_collector.specs.Outcomes.{Outcome}
 use Rattle.split_collector.specs.Standing.{Alike, Answers, CollectsAs}
 use Rattle.split_collector.specs.Steps.{CallLuck, called, failed_with, least_left, outcomes, page_by, page_given}
-use Rattle.split_collector.specs.Turns.{Turn, behind_delete, behind_doom, behind_list, behind_mark, behind_remove, counted, ended, next_behind, page_turn, paging, to_doom, to_list, to_mark, to_remove, to_sweep}
+use Rattle.split_collector.specs.Turns.{Turn, behind_delete, behind_doom, behind_list, behind_mark, behind_remove, counted, ended, next_behind, page_turn, paging, to_doom, to_list, to_mark, to_remove, to_sweep, behind_retire, to_retire}
 use Rattle.split_collector.proofs.Running.{BetweenGoes, one_collects, one_collects_at, short_as}
 use Rattle.split_collector.proofs.Told.{fault_answers, want_is_none}
 use Rattle.split_collector.proofs.Gone.{still_swept}
@@ -160,8 +160,15 @@ module _ {W : Type 0} (Stands : W → Core → Log → Type 0) (Between : Core �
   marks answer d =
       let a = d.acts in
       one_collects Stands Between Adds goes to_mark (behind_mark outcomes a.answer) (behind_mark told answer) of_mark_stale (luck_at a.fate) core d.mid a.after log old new d.made refl d.passed refl
-      (ap (λ (g : Gives Unmade ℕ). called (behind_mark outcomes) g) a.did) (counted_alike told.marked outcomes.marked to_doom to_doom (λ n. refl) refl answer a.answer a.after a.says) a.goes_on a.stands d.own
-      (short_as of_mark_stale d.mid a.after (IsShort answer) (behind_mark outcomes a.answer ≡ ended None) d.made (counted_short outcomes.marked to_doom answer a.answer a.after a.says) d.once)
+      (ap (λ (g : Gives Unmade ℕ). called (behind_mark outcomes) g) a.did) (counted_alike told.marked outcomes.marked to_retire to_retire (λ n. refl) refl answer a.answer a.after a.says) a.goes_on a.stands d.own
+      (short_as of_mark_stale d.mid a.after (IsShort answer) (behind_mark outcomes a.answer ≡ ended None) d.made (counted_short outcomes.marked to_retire answer a.answer a.after a.says) d.once)
+
+  pub retires : (answer : Result ℕ WorldError) → DoesWith Stands Between Owns Adds None of_retire retire_call IsUnmade IsGiven answer core log old new → CollectsAs Stands Between Adds to_retire (behind_retire told answer) core log old new
+  retires answer d =
+      let a = d.acts in
+      one_collects Stands Between Adds goes to_retire (behind_retire outcomes a.answer) (behind_retire told answer) of_retire (luck_at a.fate) core d.mid a.after log old new d.made refl d.passed refl
+      (ap (λ (g : Gives Unmade ℕ). called (behind_retire outcomes) g) a.did) (counted_alike told.retired outcomes.retired to_doom to_doom (λ n. refl) refl answer a.answer a.after a.says) a.goes_on a.stands d.own
+      (short_as of_retire d.mid a.after (IsShort answer) (behind_retire outcomes a.answer ≡ ended None) d.made (counted_short outcomes.retired to_doom answer a.answer a.after a.says) d.once)
 
   pub removes : (answer : Result ℕ WorldError) → DoesWith Stands Between Owns Adds None of_remove remove_call IsUnmade IsGiven answer core log old new → CollectsAs Stands Between Adds to_remove (behind_remove told answer) core log old new
   removes answer d =

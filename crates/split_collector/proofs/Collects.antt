@@ -6,20 +6,21 @@ use Rattle.meta_store.specs.declared.refusal.Refusal.{Refusal}
 use Rattle.source_log.specs.Log.{Log}
 use Rattle.index_world.specs.Calls.{Fault, store_fault, is_foreign, is_full, is_expired, Trouble, faulted, no_memory, Unmade, refused, troubled, Gives, gives, as_unmade}
 use Rattle.index_world.specs.CallsMade.{CallMade}
-use Rattle.index_world.specs.Collecting.{doom_call, list_call, mark_stale_call, remove_call, removal_offer, stale_offer, sweep_call}
+use Rattle.index_world.specs.Collecting.{doom_call, list_call, mark_stale_call, remove_call, removal_offer, stale_offer, sweep_call, retire_call, retire_offer}
+use Rattle.index_world.specs.Snapping.{snapshot_call}
 use Rattle.index_world.specs.Core.{Core, Nobody, last_count}
 use Rattle.index_world.specs.Gate.{IsTrouble, IsUnmade}
 use Rattle.index_world.specs.World.{GoesFor}
 use Rattle.index_world.specs.declared.world_error.WorldError.{WorldError}
 use Rattle.index_world.specs.declared.world_error.WorldError.TheVariants as errors
 use Rattle.index_world.specs.Ran.{IsCause, IsCaused, Ran, StepMade, Works}
-use Rattle.index_world.proofs.CallCauses.{AnswerWithin, Caused, FaultWithin, TroubleWithin, UnmadeWithin, appended_if_caused, as_unmade_caused, doom_caused, file_got_caused, sweep_caused, unmade_wider}
+use Rattle.index_world.proofs.CallCauses.{AnswerWithin, Caused, FaultWithin, TroubleWithin, UnmadeWithin, appended_if_caused, as_unmade_caused, doom_caused, file_got_caused, sweep_caused, unmade_wider, snapshot_caused}
 use Rattle.index_world.proofs.Ran.{OneStep, Past, PastCause, caused_later, end_cause, ran_as, works_later}
 use Rattle.split_collector.specs.Ending.{Told}
-use Rattle.split_collector.specs.Outcomes.{Outcome, MarkedStale, Doomed, Removed, Swept, Nothing, Refused, Faulted}
+use Rattle.split_collector.specs.Outcomes.{Outcome, MarkedStale, Retired, Doomed, Removed, Swept, Snapped, Nothing, Refused, Faulted}
 use Rattle.split_collector.specs.Standing.{Answers, CollectsAs, IsSaid}
 use Rattle.split_collector.specs.Steps.{ArePassed, CallLuck, ask_at, Passage, Stand, failed_with, least_left, outcome_at, outcomes, page_by, ran, stand, turned}
-use Rattle.split_collector.specs.Turns.{Turn, behind_delete, behind_doom, behind_list, counted, ended, next_behind, page_turn, paging, to_doom, to_list, to_mark, to_remove, to_sweep}
+use Rattle.split_collector.specs.Turns.{Turn, behind_delete, behind_doom, behind_list, counted, ended, next_behind, page_turn, paging, to_doom, to_list, to_mark, to_remove, to_sweep, behind_snap, to_retire, to_snap}
 use Rattle.split_collector.specs.declared.outcome.CollectorOutcome.{CollectorOutcome as Said}
 use Rattle.split_collector.specs.declared.outcome.CollectorOutcome.TheVariants as said
 use Rattle.split_collector.specs.CollectAll.{CollectorDid, CollectorStep, IsEndCaused, end_of}
@@ -54,9 +55,11 @@ one_step Stands Between Adds told core log old new s =
 abbrev pub OutcomeWithin : ℕ → Option Outcome → ℕ → Type 0
 OutcomeWithin low None high = ⊤
 OutcomeWithin low (Some (MarkedStale count)) high = ⊤
+OutcomeWithin low (Some (Retired count)) high = ⊤
 OutcomeWithin low (Some (Doomed number)) high = ⊤
 OutcomeWithin low (Some (Removed count)) high = ⊤
 OutcomeWithin low (Some (Swept number)) high = ⊤
+OutcomeWithin low (Some (Snapped revision)) high = ⊤
 OutcomeWithin low (Some Nothing) high = ⊤
 OutcomeWithin low (Some (Refused refusal)) high = ⊤
 OutcomeWithin low (Some (Faulted fault)) high = FaultWithin low fault high
@@ -88,6 +91,11 @@ module _ (low : ℕ) where
   doom_says (Ok (Some number)) core g = record { says = tt; past = g.past }
   doom_says (Err e) core g = failed_says e core g
 
+  snap_says : (r : Result (Option ℕ) Unmade) (core : Core) → Caused UnmadeWithin low (gives r core) → TurnSays low (behind_snap outcomes r) core
+  snap_says (Ok None) core g = record { says = tt; past = g.past }
+  snap_says (Ok (Some revision)) core g = record { says = tt; past = g.past }
+  snap_says (Err e) core g = failed_says e core g
+
   paging_says : (next : Option (List ℕ)) (core : Core) → Past low core.store_faults → TurnSays low (paging outcomes next) core
   paging_says None core past = record { says = tt; past = past }
   paging_says (Some key) core past = record { says = tt; past = past }
@@ -116,7 +124,10 @@ module _ (low : ℕ) where
   called_says : (turn : Turn (Option Outcome)) (luck : CallLuck) (core : Core) → TurnSays low turn core → TurnSays low (turned turn luck core).turn (turned turn luck core).core
   called_says to_mark luck core s =
       let given = mark_stale_call luck.fate core in
-      counted_says (λ n. Some (MarkedStale n)) to_doom (λ n high. tt) (λ high. tt) given.answer given.core (as_is core.store_faults given s.past (appended_if_caused luck.fate 0 stale_offer core))
+      counted_says (λ n. Some (MarkedStale n)) to_retire (λ n high. tt) (λ high. tt) given.answer given.core (as_is core.store_faults given s.past (appended_if_caused luck.fate 0 stale_offer core))
+  called_says to_retire luck core s =
+      let given = retire_call luck.fate core in
+      counted_says (λ n. Some (Retired n)) to_doom (λ n high. tt) (λ high. tt) given.answer given.core (as_is core.store_faults given s.past (appended_if_caused luck.fate 0 retire_offer core))
   called_says to_doom luck core s =
       let given = as_unmade (doom_call luck.fate core) in
       doom_says given.answer given.core (as_is core.store_faults given s.past (as_unmade_caused core.store_faults (doom_call luck.fate core) (doom_caused luck.fate core)))
@@ -130,6 +141,9 @@ module _ (low : ℕ) where
   called_says (to_sweep number next) luck core s =
       let given = as_unmade (sweep_call number luck.fate core) in
       delete_says number next given.answer given.core (as_is core.store_faults given s.past (as_unmade_caused core.store_faults (sweep_call number luck.fate core) (sweep_caused number luck.fate core)))
+  called_says to_snap luck core s =
+      let given = as_unmade (snapshot_call luck.fate core) in
+      snap_says given.answer given.core (as_is core.store_faults given s.past (as_unmade_caused core.store_faults (snapshot_call luck.fate core) (snapshot_caused luck.fate core)))
   called_says (ended outcome) luck core s = s
 
   -- between two calls others act, and no call comes behind the end
@@ -145,7 +159,9 @@ module _ (low : ℕ) where
       where
         later : (turn : Turn (Option Outcome)) → IsSome (ask_at turn) → Past low passage.core.store_faults → TurnSays low turn passage.core
         later to_mark some past = record { says = tt; past = past }
+        later to_retire some past = record { says = tt; past = past }
         later to_doom some past = record { says = tt; past = past }
+        later to_snap some past = record { says = tt; past = past }
         later to_remove some past = record { says = tt; past = past }
         later (to_list behind) some past = record { says = tt; past = past }
         later (to_sweep number next) some past = record { says = tt; past = past }
@@ -155,7 +171,9 @@ module _ (low : ℕ) where
 
 fault_answer : (told : Told) (error : WorldError) → end_of told ≡ Some (ends.Fault error) → told ≡ Ok (said.Fault error)
 fault_answer (Ok (said.MarkedStale count)) error e = absurd cc
+fault_answer (Ok (said.Retired count)) error e = absurd cc
 fault_answer (Ok (said.Doomed number)) error e = absurd cc
+fault_answer (Ok (said.Snapped revision)) error e = absurd cc
 fault_answer (Ok (said.Removed count)) error e = absurd cc
 fault_answer (Ok (said.Swept number)) error e = absurd cc
 fault_answer (Ok said.Nothing) error e = absurd cc

@@ -32,9 +32,11 @@ failed_said error (troubled no_memory) outcome h e = absurd (cc)
 
 said_is : (given : Said) (outcome : Outcome) → IsSaid given outcome → said_words given ≡ outcome_words outcome
 said_is (said.MarkedStale count) outcome h = ap outcome_words (sym h)
+said_is (said.Retired count) outcome h = ap outcome_words (sym h)
 said_is (said.Doomed number) outcome h = ap outcome_words (sym h)
 said_is (said.Removed count) outcome h = ap outcome_words (sym h)
 said_is (said.Swept number) outcome h = ap outcome_words (sym h)
+said_is (said.Snapped revision) outcome h = ap outcome_words (sym h)
 said_is said.Nothing outcome h = ap outcome_words (sym h)
 said_is (said.Fault error) outcome h = failed_said error h.0 outcome h.1 h.2
 
@@ -110,9 +112,11 @@ error_started (errors.BadConfig error) = config_started error
 
 said_started : (given : Said) → IsStarted (said_words given)
 said_started (said.MarkedStale count) = tt
+said_started (said.Retired count) = tt
 said_started (said.Doomed number) = tt
 said_started (said.Removed count) = tt
 said_started (said.Swept number) = tt
+said_started (said.Snapped revision) = tt
 said_started said.Nothing = tt
 said_started (said.Fault error) = error_started error
 
