@@ -7,8 +7,9 @@ use Rattle.std.specs.declared.alloc.AllocError.{AllocError}
 use Rattle.object_store.specs.Store.{is_behind}
 use Rattle.source_log.specs.Log.{Log}
 use Rattle.index_world.specs.Calls.{Fate, Gives, Trouble, Unmade, as_unmade, gives, troubled}
-use Rattle.index_world.specs.CallsMade.{CallMade, IsShort, of_doom, of_mark_stale, of_remove, of_sweep, of_sweep_list, of_retire}
+use Rattle.index_world.specs.CallsMade.{CallMade, IsShort, of_doom, of_mark_stale, of_remove, of_sweep, of_sweep_list, of_retire, of_snapshot}
 use Rattle.index_world.specs.Collecting.{IsSweepPage, doom_call, is_swept, list_call, mark_stale_call, remove_call, sweep_call, retire_call}
+use Rattle.index_world.specs.Snapping.{snapshot_call}
 use Rattle.index_world.specs.Core.{Core, file_at}
 use Rattle.index_world.specs.Gate.{Does, DoesWith, IsGiven, IsSoundCore, IsTrouble, IsUnmade, Says, SaysWith}
 use Rattle.index_world.specs.declared.tokens.SweepPage.{SweepPage}
@@ -18,7 +19,7 @@ use Rattle.split_collector.specs.Ending.{Told, fault_said, page_of, told, turn_o
 use Rattle.split_collector.specs.Outcomes.{Outcome}
 use Rattle.split_collector.specs.Standing.{Alike, Answers, CollectsAs}
 use Rattle.split_collector.specs.Steps.{CallLuck, called, failed_with, least_left, outcomes, page_by, page_given}
-use Rattle.split_collector.specs.Turns.{Turn, behind_delete, behind_doom, behind_list, behind_mark, behind_remove, counted, ended, next_behind, page_turn, paging, to_doom, to_list, to_mark, to_remove, to_sweep, behind_retire, to_retire}
+use Rattle.split_collector.specs.Turns.{Turn, behind_delete, behind_doom, behind_list, behind_mark, behind_remove, counted, ended, next_behind, page_turn, paging, to_doom, to_list, to_mark, to_remove, to_sweep, behind_retire, to_retire, behind_snap, to_snap}
 use Rattle.split_collector.proofs.Running.{BetweenGoes, one_collects, one_collects_at, short_as}
 use Rattle.split_collector.proofs.Told.{fault_answers, want_is_none}
 use Rattle.split_collector.proofs.Gone.{still_swept}
@@ -58,8 +59,20 @@ doomed_short (Ok n) given after s short = absurd short
 doomed_short (Err error) (Ok m) after s short = absurd s
 doomed_short (Err error) (Err unmade) after s short = ap (λ (o : Option Outcome). ended o) (want_is_none error unmade s short)
 
+snapped_alike : (answer : Result (Option ℕ) WorldError) (given : Result (Option ℕ) Unmade) (after : Core) → SaysGiven answer given after → Alike (behind_snap told answer) (behind_snap outcomes given)
+snapped_alike (Ok None) (Ok m) after s = (outcomes.nothing, ap (λ (o : Option ℕ). behind_snap outcomes (Ok o)) (sym s), refl)
+snapped_alike (Ok (Some n)) (Ok m) after s = (outcomes.snapped n, ap (λ (o : Option ℕ). behind_snap outcomes (Ok o)) (sym s), refl)
+snapped_alike (Ok o) (Err unmade) after s = absurd s
+snapped_alike (Err error) (Ok m) after s = absurd s
+snapped_alike (Err error) (Err unmade) after s = failed_alike error unmade s
+
+snapped_short : (answer : Result (Option ℕ) WorldError) (given : Result (Option ℕ) Unmade) (after : Core) → SaysGiven answer given after → IsShort answer → behind_snap outcomes given ≡ ended None
+snapped_short (Ok n) given after s short = absurd short
+snapped_short (Err error) (Ok m) after s short = absurd s
+snapped_short (Err error) (Err unmade) after s short = ap (λ (o : Option Outcome). ended o) (want_is_none error unmade s short)
+
 pub paging_alike : (next : Option (List ℕ)) → Alike (paging told next) (paging outcomes next)
-paging_alike None = (outcomes.nothing, refl, refl)
+paging_alike None = refl
 paging_alike (Some key) = refl
 
 page_alike : (least : Option ℕ) (next : Option (List ℕ)) → Alike (page_turn told least next) (page_turn outcomes least next)
@@ -185,6 +198,15 @@ module _ {W : Type 0} (Stands : W → Core → Log → Type 0) (Between : Core �
       one_collects Stands Between Adds goes to_doom (behind_doom outcomes given) (behind_doom told answer) of_doom (luck_at a.fate) core d.mid a.after log old new d.made refl d.passed refl
       (ap (λ (g : Gives Unmade (Option ℕ)). called (behind_doom outcomes) g) (unmade_is (doom_call a.fate d.mid) a.answer a.after a.did)) (doomed_alike answer given a.after says) a.goes_on a.stands d.own
       (short_as of_doom d.mid a.after (IsShort answer) (behind_doom outcomes given ≡ ended None) d.made (doomed_short answer given a.after says) d.once)
+
+  pub snaps : (answer : Result (Option ℕ) WorldError) → DoesWith Stands Between Owns Adds None of_snapshot snapshot_call IsTrouble IsGiven answer core log old new → CollectsAs Stands Between Adds to_snap (behind_snap told answer) core log old new
+  snaps answer d =
+      let a = d.acts in
+      let given = unmade_of a.answer in
+      let says = unmade_says answer a.answer a.after a.says in
+      one_collects Stands Between Adds goes to_snap (behind_snap outcomes given) (behind_snap told answer) of_snapshot (luck_at a.fate) core d.mid a.after log old new d.made refl d.passed refl
+      (ap (λ (g : Gives Unmade (Option ℕ)). called (behind_snap outcomes) g) (unmade_is (snapshot_call a.fate d.mid) a.answer a.after a.did)) (snapped_alike answer given a.after says) a.goes_on a.stands d.own
+      (short_as of_snapshot d.mid a.after (IsShort answer) (behind_snap outcomes given ≡ ended None) d.made (snapped_short answer given a.after says) d.once)
 
   pub sweeps : ((gate : W) (c : Core) (l : Log) → Stands gate c l → IsSoundCore c l) → (number : ℕ) (next : Option (List ℕ)) (answer : Result Bool WorldError) → is_swept core number ≡ true
       → DoesWith Stands Between Owns Adds None (of_sweep number) (sweep_call number) IsTrouble IsGiven answer core log old new → CollectsAs Stands Between Adds (to_sweep number next) (behind_delete told number next answer) core log old new
