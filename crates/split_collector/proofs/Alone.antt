@@ -114,7 +114,7 @@ alone_is (suc calls) turn core after outcome (p ∷ ps) enough passed did =
     ∙ alone_is calls left.turn left.core after outcome ps (omega arith) passed.3 did
 
 -- so many calls are never more than those that there may be
-enough_calls : (ends : List (List ℕ)) (more : List Fate) (n : ℕ) → n ≤ suc (length more) → n ≤ 5 + 2 * length ends + length more
+enough_calls : (ends : List (List ℕ)) (more : List Fate) (n : ℕ) → n ≤ suc (length more) → n ≤ 7 + 2 * length ends + length more
 enough_calls ends more n le = omega arith
 
 pub steps_alone_is : (passages : List Passage) (core after : Core) (outcome : Option Outcome) → ArePassed NoneBetween to_mark core passages → ran to_mark core passages ≡ stand (ended outcome) after → step_collector (luck_of passages) core ≡ record { outcome = outcome; core = after }
