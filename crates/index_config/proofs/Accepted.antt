@@ -11,7 +11,7 @@ use Rattle.index_config.specs.declared.raw.Purpose.TheVariants as purposes
 use Rattle.index_config.specs.Accepted.{BeginPlain, AreTags, AreTextFields, HoldsUnmapped, AreOutside, IsOutside}
 use Rattle.index_config.specs.Answer.{config_answer, root_of, read_answer, config_faults, first_answer}
 use Rattle.index_config.specs.Tables.{table_faults, items_in}
-use Rattle.index_config.specs.Fields.{all_raws, whole_faults, config_of, duplicate_faults, field_count, count_faults, timestamp_faults, timestamp_path, has_retention, unbuilt_faults, reference_faults, tags_path, defaults_path, search_list, mode_of, dynamic_raws, mapped_raws, in_mapping, in_order, schema_of}
+use Rattle.index_config.specs.Fields.{all_raws, whole_faults, config_of, duplicate_faults, field_count, count_faults, timestamp_faults, timestamp_path, has_retention, reference_faults, tags_path, defaults_path, search_list, mode_of, dynamic_raws, mapped_raws, in_mapping, in_order, schema_of}
 use Rattle.index_config.proofs.Distinct.{AreDistinct, both-empty, distinct}
 use Rattle.index_config.proofs.Rising.{ordered-rises, fields-rise, fields-few, formats-length}
 use Rattle.index_config.proofs.Named.{fields-named, fields-plain, fields-paths}
@@ -49,10 +49,6 @@ abbrev tagged_faults : Data → List RawField → List ConfigError
 tagged_faults root raws =
     timed_faults root raws ++ reference_faults purposes.Tag raws tags_path 0 (items_in (in_mapping (codes "tag_fields") root))
 
-abbrev named_faults : Data → List RawField → List ConfigError
-named_faults root raws =
-    tagged_faults root raws ++ reference_faults purposes.Default raws defaults_path 0 (items_in (search_list root))
-
 -- each of the five is empty where the whole is
 abbrev pub NothingWrong : Data → List RawField → Type 0
 NothingWrong root raws =
@@ -62,8 +58,7 @@ NothingWrong root raws =
 
 pub nothing-wrong : (root : Data) (raws : List RawField) → whole_faults root raws ≡ [] → NothingWrong root raws
 nothing-wrong root raws e =
-    let named = both-empty (named_faults root raws) (unbuilt_faults (has_retention root)) e in
-    let tagged = both-empty (tagged_faults root raws) (reference_faults purposes.Default raws defaults_path 0 (items_in (search_list root))) named.0 in
+    let tagged = both-empty (tagged_faults root raws) (reference_faults purposes.Default raws defaults_path 0 (items_in (search_list root))) e in
     let timed =
     both-empty (timed_faults root raws) (reference_faults purposes.Tag raws tags_path 0 (items_in (in_mapping (codes "tag_fields") root))) tagged.0 in
     let counted = both-empty (counted_faults root raws) (timestamp_faults (has_retention root) (timestamp_path root) raws) timed.0 in

@@ -5,7 +5,7 @@ use Rattle.toml.specs.Data.{Data, table}
 use Rattle.toml.specs.Parse.{parse_document}
 use Rattle.index_config.specs.declared.config.IndexConfig.{IndexConfig}
 use Rattle.index_config.specs.declared.config_error.ConfigError.{ConfigError}
-use Rattle.index_config.specs.declared.config_error.ConfigError.TheVariants.{NotToml, UnknownKey, WrongKind, MissingKey, BadNumber, DuplicateField, BadTimestampField, TooManyFields, BadReference, RetentionNotBuilt, Memory}
+use Rattle.index_config.specs.declared.config_error.ConfigError.TheVariants.{NotToml, UnknownKey, WrongKind, MissingKey, BadNumber, DuplicateField, BadTimestampField, TooManyFields, BadReference, Memory}
 use Rattle.index_config.specs.Tables.{table_faults}
 use Rattle.index_config.specs.Fields.{all_raws, whole_faults, config_of}
 
@@ -21,7 +21,6 @@ IsMemory (DuplicateField path) = ⊥
 IsMemory BadTimestampField = ⊥
 IsMemory (TooManyFields count) = ⊥
 IsMemory (BadReference path) = ⊥
-IsMemory (RetentionNotBuilt path) = ⊥
 
 -- all that is wrong with a configuration, in order
 abbrev pub config_faults : Data → List ConfigError

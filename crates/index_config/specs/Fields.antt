@@ -25,7 +25,7 @@ use Rattle.index_config.specs.declared.rule.FieldType.TheVariants as types
 use Rattle.index_config.specs.declared.rule.PolicyType.{PolicyType}
 use Rattle.index_config.specs.declared.rule.PolicyType.TheVariants as policies
 use Rattle.index_config.specs.declared.config_error.ConfigError.{ConfigError}
-use Rattle.index_config.specs.declared.config_error.ConfigError.TheVariants.{DuplicateField, BadTimestampField, TooManyFields, BadReference, RetentionNotBuilt}
+use Rattle.index_config.specs.declared.config_error.ConfigError.TheVariants.{DuplicateField, BadTimestampField, TooManyFields, BadReference}
 use Rattle.index_config.specs.Rules.{under, member_path, duration_of}
 use Rattle.index_config.specs.Tables.{items_in, list_items, text_in, text_at, type_of, is_object, max_levels, number_at, merge_factor, policy_type, mapping_path, retention_path}
 
@@ -272,11 +272,6 @@ timestamp_path root = text_in (in_mapping (codes "timestamp_field") root)
 abbrev pub has_retention : Data → Bool
 has_retention root = is_some (get retention_path root)
 
--- retention is not built
-abbrev pub unbuilt_faults : Bool → List ConfigError
-unbuilt_faults true = RetentionNotBuilt retention_path ∷ []
-unbuilt_faults false = []
-
 -- what is wrong with the configuration as a whole, behind all tables
 abbrev pub whole_faults : Data → List RawField → List ConfigError
 whole_faults root raws =
@@ -285,7 +280,6 @@ whole_faults root raws =
     ++ timestamp_faults (has_retention root) (timestamp_path root) raws
     ++ reference_faults purposes.Tag raws tags_path 0 (items_in (in_mapping (codes "tag_fields") root))
     ++ reference_faults purposes.Default raws defaults_path 0 (items_in (search_list root))
-    ++ unbuilt_faults (has_retention root)
 
 -- a field at its place in byte order of paths
 abbrev pub placed : RawField → List RawField → List RawField

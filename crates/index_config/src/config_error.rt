@@ -27,8 +27,6 @@ pub enum ConfigError {
     TooManyFields { count: usize },
     #[error("a path of no such field")]
     BadReference { path: Text },
-    #[error("retention is not built")]
-    RetentionNotBuilt { path: Text },
     #[error("out of memory")]
     Memory(AllocError),
 }

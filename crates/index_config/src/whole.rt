@@ -162,18 +162,6 @@ fn no_timestamp(faults: &mut Faults, needed: bool) -> Result<(), AllocError>
     Ok(())
 }
 
-/// Retention is not built.
-fn check_built(alloc: Global, faults: &mut Faults, root: &Value) -> Result<(), AllocError>
-    ensures { OnOk result (faults.new ≡ faults.old ++ spec.unbuilt_faults (spec.has_retention (view root.now))) }
-{
-    if !has_retention(root) {
-        return Ok(());
-    }
-    faults.push(ConfigError::RetentionNotBuilt {
-        path: Text::from_str(alloc, "retention")?,
-    })
-}
-
 fn check_timestamp(faults: &mut Faults, root: &Value, raws: &[RawField]) -> Result<(), AllocError>
     ensures { OnOk result (faults.new ≡ faults.old
         ++ spec.timestamp_faults (spec.has_retention (view root.now)) (spec.timestamp_path (view root.now)) raws.now) }
@@ -350,6 +338,5 @@ pub fn check_whole(
     check_count(faults, raws)?;
     check_timestamp(faults, root, raws)?;
     check_tags(alloc, faults, root, raws)?;
-    check_defaults(alloc, faults, root, raws)?;
-    check_built(alloc, faults, root)
+    check_defaults(alloc, faults, root, raws)
 }

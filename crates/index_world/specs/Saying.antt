@@ -84,7 +84,6 @@ config_words (configs.DuplicateField path) = codes "duplicatefield" ∷ plain pa
 config_words configs.BadTimestampField = codes "badtimestampfield" ∷ []
 config_words (configs.TooManyFields count) = codes "toomanyfields" ∷ []
 config_words (configs.BadReference path) = codes "badreference" ∷ plain path ∷ []
-config_words (configs.RetentionNotBuilt path) = codes "retentionnotbuilt" ∷ plain path ∷ []
 config_words (configs.Memory e) = codes "memory" ∷ []
 
 -- each error of a call of the world

@@ -199,9 +199,6 @@ fn put_config(alloc: Global, out: &mut Bytes, error: &ConfigError) -> Result<(),
             b"badreference",
             path.as_slice(),
         ),
-        ConfigError::RetentionNotBuilt { path } => {
-            put_path(alloc, out, b"retentionnotbuilt", path.as_slice())
-        }
         ConfigError::Memory(_) => put_word(out, b"memory"),
     }
 }

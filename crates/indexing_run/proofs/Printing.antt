@@ -127,7 +127,6 @@ config_started (configs.DuplicateField path) = tt
 config_started configs.BadTimestampField = tt
 config_started (configs.TooManyFields count) = tt
 config_started (configs.BadReference path) = tt
-config_started (configs.RetentionNotBuilt path) = tt
 config_started (configs.Memory e) = tt
 
 pub error_started : (error : WorldError) → IsStarted (error_words error)

@@ -94,7 +94,6 @@ config_started (configs.DuplicateField path) = tt
 config_started configs.BadTimestampField = tt
 config_started (configs.TooManyFields count) = tt
 config_started (configs.BadReference path) = tt
-config_started (configs.RetentionNotBuilt path) = tt
 config_started (configs.Memory e) = tt
 
 error_started : (error : WorldError) → IsStarted (error_words error)

@@ -56,8 +56,7 @@ fn refused(alloc: Global, refusal: &ConfigError) -> Result<String, AllocError> {
         | ConfigError::MissingKey { path }
         | ConfigError::BadNumber { path }
         | ConfigError::DuplicateField { path }
-        | ConfigError::BadReference { path }
-        | ConfigError::RetentionNotBuilt { path } => {
+        | ConfigError::BadReference { path } => {
             let path = path.as_str();
             format!(in alloc; "{refusal}: {path}")
         }

@@ -8,5 +8,4 @@ returns c =
     let s2 = chain _ _ _ _ _ s1 c.in_ok-check_count.ensures in
     let s3 = chain _ _ _ _ _ s2 c.in_ok-check_timestamp.ensures in
     let s4 = chain _ _ _ _ _ s3 c.in_ok-check_tags.ensures in
-    let s5 = chain _ _ _ _ _ s4 c.in_ok-check_defaults.ensures in
-    on_ok_weaker c.check_built.result (chain _ _ _ _ _ s5) c.check_built.ensures
+    on_ok_weaker c.check_defaults.result (chain _ _ _ _ _ s4) c.check_defaults.ensures

@@ -27,5 +27,3 @@ returns-in-TooManyFields c = rw c.in-TooManyFields.is c.put_word-in-TooManyField
 pub returns-in-BadReference : goal.returns-in-BadReference
 returns-in-BadReference c = rw (c.in-BadReference.is, ← c.as_slice-in-BadReference.ensures) c.put_path-in-BadReference.ensures
 
-pub returns-in-RetentionNotBuilt : goal.returns-in-RetentionNotBuilt
-returns-in-RetentionNotBuilt c = rw (c.in-RetentionNotBuilt.is, ← c.as_slice-in-RetentionNotBuilt.ensures) c.put_path-in-RetentionNotBuilt.ensures
