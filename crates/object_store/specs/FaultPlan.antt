@@ -1,7 +1,8 @@
 -- Which calls are to fail.
-use Rattle.std.specs.Prelude.{◌≡◌, ◌<◌, length, slice_index_or, remove, ℕ, List, [], ◌∷◌, Option, Some, None, Result, Ok, Err, ⊤, ◌==◌, if◌then◌else◌}
+use Rattle.std.specs.Prelude.{◌≡◌, ◌<◌, nat_le, length, slice_index_or, remove, ℕ, List, [], ◌∷◌, Option, Some, None, Result, Ok, Err, ⊤, ◌==◌, if◌then◌else◌}
 use Rattle.std.specs.Ordering.{nat_cmp, eq_by_cmp}
 use Rattle.std.specs.Cmp.Lexicographic.{slice_cmp}
+use Rattle.object_store.specs.declared.plan.FaultPlan.{FaultPlan}
 use Rattle.object_store.specs.declared.plan.Landing.{Landing}
 use Rattle.object_store.specs.declared.store.CreateError.{CreateError}
 use Rattle.object_store.specs.declared.store.CreateError.TheVariants as creates
@@ -43,13 +44,22 @@ FailsWhere (Some landing) (Err creates.Exists) = ⊥
 FailsWhere (Some landing) (Err creates.Failed) = ⊤
 FailsWhere (Some landing) (Err (creates.Memory e)) = ⊤
 
--- when a create lands, where it is to fail: by its number, or else by its key
 abbrev pub either : Option Landing → Option Landing → Option Landing
 either (Some landing) other = Some landing
 either None other = other
 
-abbrev pub landing_of_create : ℕ → List ℕ → List (ℕ × Landing) → List (List ℕ × Landing) → Option Landing
-landing_of_create number key calls keys = either (landing_of_call number calls) (landing_of_key key keys)
+-- when the call with a number lands, where each from a number on is to fail
+abbrev pub landing_from : ℕ → Option (ℕ × Landing) → Option Landing
+landing_from number None = None
+landing_from number (Some first) = if nat_le first.0 number then Some first.1 else None
+
+-- when the call with a number lands, where it is to fail: as it was said of this number, or else of each from a number on
+abbrev pub landing_at : ℕ → FaultPlan → Option Landing
+landing_at number plan = either (landing_of_call number plan.calls.items) (landing_from number plan.onward)
+
+-- when a create lands, where it is to fail: by its number, or else by its key
+abbrev pub landing_of_create : ℕ → List ℕ → FaultPlan → Option Landing
+landing_of_create number key plan = either (landing_at number plan) (landing_of_key key plan.keys.items)
 
 -- the keys that are still to fail behind a create: one that failed by its key is spent
 abbrev pub keys_left : Option Landing → List ℕ → Result (Unit {0}) CreateError → List (List ℕ × Landing) → List (List ℕ × Landing)

@@ -3,7 +3,7 @@ ghost use Rattle.std.specs.Option.{option_copied};
 ghost use Rattle.std.specs.FinMap as finmap;
 ghost use Rattle.byte_fields.specs.Causes.{HasCause, following};
 ghost use Rattle.object_store.specs.Store.{AfterLanding, Creates, Gets, Deletes, Lists, given_more};
-ghost use Rattle.object_store.specs.FaultPlan.{landing_of_call, landing_of_key};
+ghost use Rattle.object_store.specs.FaultPlan.{landing_at, landing_of_key};
 
 use crate::given::given_behind;
 use crate::kept::Kept;
@@ -31,6 +31,7 @@ impl MemoryStore {
         ensures faults { result.plan.faults ≡ 0 }
         ensures made { result.plan.made ≡ 0 }
         ensures calls { result.plan.calls.items ≡ [] }
+        ensures onward { result.plan.onward ≡ None }
         ensures keys { result.plan.keys.items ≡ [] }
     {
         MemoryStore {
@@ -45,6 +46,7 @@ impl MemoryStore {
         ensures ok { OnOk result (self.new.plan.keys.items ≡ self.old.plan.keys.items ++ (key, landing) ∷ []) }
         ensures err { OnErr result (self.new.plan.keys.items ≡ self.old.plan.keys.items) }
         ensures calls { self.new.plan.calls.items ≡ self.old.plan.calls.items }
+        ensures onward { self.new.plan.onward ≡ self.old.plan.onward }
         ensures made { self.new.plan.made ≡ self.old.plan.made }
         ensures faults { self.new.plan.faults ≡ self.old.plan.faults }
         ensures held { held self.new ≡ held self.old }
@@ -57,6 +59,7 @@ impl MemoryStore {
     pub fn fail_call(&mut self, number: u64, landing: Landing) -> Result<(), AllocError>
         ensures ok { OnOk result (self.new.plan.calls.items ≡ self.old.plan.calls.items ++ (number, landing) ∷ []) }
         ensures err { OnErr result (self.new.plan.calls.items ≡ self.old.plan.calls.items) }
+        ensures onward { self.new.plan.onward ≡ self.old.plan.onward }
         ensures keys { self.new.plan.keys.items ≡ self.old.plan.keys.items }
         ensures made { self.new.plan.made ≡ self.old.plan.made }
         ensures faults { self.new.plan.faults ≡ self.old.plan.faults }
@@ -64,6 +67,37 @@ impl MemoryStore {
     {
         self.plan.calls.push((number, landing))?;
         Ok(())
+    }
+
+    /// Makes each call from this number on fail, but for those that `fail_call` names, which fail as it said.
+    pub fn fail_from(&mut self, number: u64, landing: Landing)
+        ensures onward { self.new.plan.onward ≡ Some (number, landing) }
+        ensures calls { self.new.plan.calls.items ≡ self.old.plan.calls.items }
+        ensures keys { self.new.plan.keys.items ≡ self.old.plan.keys.items }
+        ensures made { self.new.plan.made ≡ self.old.plan.made }
+        ensures faults { self.new.plan.faults ≡ self.old.plan.faults }
+        ensures held { held self.new ≡ held self.old }
+    {
+        self.plan.onward = Some((number, landing));
+    }
+
+    /// No call is to fail from here on. What is late still lands as it was to.
+    pub fn heal(&mut self)
+        ensures calls { self.new.plan.calls.items ≡ [] }
+        ensures onward { self.new.plan.onward ≡ None }
+        ensures keys { self.new.plan.keys.items ≡ [] }
+        ensures made { self.new.plan.made ≡ self.old.plan.made }
+        ensures faults { self.new.plan.faults ≡ self.old.plan.faults }
+        ensures held { held self.new ≡ held self.old }
+    {
+        self.plan.heal();
+    }
+
+    /// How many calls were made, but for those of `faults`.
+    pub fn calls(&self) -> u64
+        ensures { result ≡ self.now.plan.made }
+    {
+        self.plan.made
     }
 }
 
@@ -78,7 +112,7 @@ impl MemoryStore {
     fn begin(&mut self) -> Option<Landing>
         ensures lands { HasLanded (state self.old) (state self.new) }
         ensures due { held self.new ≡ begun (following self.old.plan.made) (held self.old) }
-        ensures answer { result ≡ landing_of_call (following self.old.plan.made) self.old.plan.calls.items }
+        ensures answer { result ≡ landing_at (following self.old.plan.made) self.old.plan }
         ensures plan { self.new.plan ≡ record self.old.plan { made = following self.old.plan.made } }
         ensures given { self.new.given ≡ self.old.given }
     {
@@ -137,6 +171,7 @@ impl MemoryStore {
         ensures fails { FailsWhere (Some landing) result }
         ensures keys { self.new.plan.keys.items ≡ self.old.plan.keys.items }
         ensures calls { self.new.plan.calls.items ≡ self.old.plan.calls.items }
+        ensures onward { self.new.plan.onward ≡ self.old.plan.onward }
         ensures made { self.new.plan.made ≡ self.old.plan.made }
     {
         self.fall(alloc, key, content, landing)?;
@@ -152,6 +187,7 @@ impl MemoryStore {
         ensures fails { FailsWhere (landing_of_key key.now self.old.plan.keys.items) result }
         ensures keys { self.new.plan.keys.items ≡ keys_left None key.now result self.old.plan.keys.items }
         ensures calls { self.new.plan.calls.items ≡ self.old.plan.calls.items }
+        ensures onward { self.new.plan.onward ≡ self.old.plan.onward }
         ensures made { self.new.plan.made ≡ self.old.plan.made }
     {
         match self.plan.landing_of_key(key) {
@@ -181,12 +217,13 @@ impl ObjectStore for MemoryStore {
         ensures step { AfterLanding (Some (state self.old)) (Some (state self.new)) (Creates key.now content.now result) }
         ensures cause { HasCause self.old.plan.faults self.new.plan.faults (IsErrOf result CreateError.Failed) }
         // What is due lands as it begins, and nothing else. Where it fails, it lands when its plan says.
-        ensures held { held self.new ≡ created (landing_of_create (following self.old.plan.made) key.now self.old.plan.calls.items self.old.plan.keys.items)
+        ensures held { held self.new ≡ created (landing_of_create (following self.old.plan.made) key.now self.old.plan)
             (record { key = key.now; content = content.now }) (following self.old.plan.made) result (begun (following self.old.plan.made) (held self.old)) }
         // It fails exactly where its number or else its key is to fail, but for want of memory.
-        ensures fails { FailsWhere (landing_of_create (following self.old.plan.made) key.now self.old.plan.calls.items self.old.plan.keys.items) result }
-        ensures keys { self.new.plan.keys.items ≡ keys_left (landing_of_call (following self.old.plan.made) self.old.plan.calls.items) key.now result self.old.plan.keys.items }
+        ensures fails { FailsWhere (landing_of_create (following self.old.plan.made) key.now self.old.plan) result }
+        ensures keys { self.new.plan.keys.items ≡ keys_left (landing_at (following self.old.plan.made) self.old.plan) key.now result self.old.plan.keys.items }
         ensures calls { self.new.plan.calls.items ≡ self.old.plan.calls.items }
+        ensures onward { self.new.plan.onward ≡ self.old.plan.onward }
         ensures made { self.new.plan.made ≡ following self.old.plan.made }
     {
         match self.begin() {
@@ -203,9 +240,10 @@ impl ObjectStore for MemoryStore {
         // What is due lands as it begins, and nothing else.
         ensures held { held self.new ≡ begun (following self.old.plan.made) (held self.old) }
         // It fails exactly where its number is to fail.
-        ensures fails { IsErrOf result GetError.Failed ↔ IsSome (landing_of_call (following self.old.plan.made) self.old.plan.calls.items) }
+        ensures fails { IsErrOf result GetError.Failed ↔ IsSome (landing_at (following self.old.plan.made) self.old.plan) }
         ensures keys { self.new.plan.keys.items ≡ self.old.plan.keys.items }
         ensures calls { self.new.plan.calls.items ≡ self.old.plan.calls.items }
+        ensures onward { self.new.plan.onward ≡ self.old.plan.onward }
         ensures made { self.new.plan.made ≡ following self.old.plan.made }
     {
         match self.begin() {
@@ -225,11 +263,12 @@ impl ObjectStore for MemoryStore {
         ensures step { AfterLanding (Some (state self.old)) (Some (state self.new)) (Deletes key.now result) }
         ensures cause { HasCause self.old.plan.faults self.new.plan.faults (IsErr result) }
         // What is due lands as it begins, and nothing else. Where it fails, it takes effect if its plan says at once.
-        ensures held { held self.new ≡ deleted (landing_of_call (following self.old.plan.made) self.old.plan.calls.items) key.now (begun (following self.old.plan.made) (held self.old)) }
+        ensures held { held self.new ≡ deleted (landing_at (following self.old.plan.made) self.old.plan) key.now (begun (following self.old.plan.made) (held self.old)) }
         // It fails exactly where its number is to fail.
-        ensures fails { IsErr result ↔ IsSome (landing_of_call (following self.old.plan.made) self.old.plan.calls.items) }
+        ensures fails { IsErr result ↔ IsSome (landing_at (following self.old.plan.made) self.old.plan) }
         ensures keys { self.new.plan.keys.items ≡ self.old.plan.keys.items }
         ensures calls { self.new.plan.calls.items ≡ self.old.plan.calls.items }
+        ensures onward { self.new.plan.onward ≡ self.old.plan.onward }
         ensures made { self.new.plan.made ≡ following self.old.plan.made }
     {
         match self.begin() {
@@ -259,9 +298,10 @@ impl ObjectStore for MemoryStore {
         // What is due lands as it begins, and nothing else.
         ensures held { held self.new ≡ begun (following self.old.plan.made) (held self.old) }
         // It fails exactly where its number is to fail.
-        ensures fails { IsErrOf result ListError.Failed ↔ IsSome (landing_of_call (following self.old.plan.made) self.old.plan.calls.items) }
+        ensures fails { IsErrOf result ListError.Failed ↔ IsSome (landing_at (following self.old.plan.made) self.old.plan) }
         ensures keys { self.new.plan.keys.items ≡ self.old.plan.keys.items }
         ensures calls { self.new.plan.calls.items ≡ self.old.plan.calls.items }
+        ensures onward { self.new.plan.onward ≡ self.old.plan.onward }
         ensures made { self.new.plan.made ≡ following self.old.plan.made }
     {
         match self.begin() {

@@ -1,7 +1,7 @@
 // Which calls of a store in memory fail, and how many did.
-ghost use Rattle.std.specs.Prelude.{◌≡◌, ◌≤◌, ◌+◌, ◌∷◌, ◌++◌, [], OnOk, OnErr, IfSome, IfNone};
+ghost use Rattle.std.specs.Prelude.{◌≡◌, ◌≤◌, ◌+◌, ◌∷◌, ◌++◌, [], None, OnOk, OnErr, IfSome, IfNone};
 ghost use Rattle.byte_fields.specs.Causes.{Rose, following};
-ghost use Rattle.object_store.specs.FaultPlan.{landing_of_call, landing_of_key, without_key, IsFirstOf, IsNowhere};
+ghost use Rattle.object_store.specs.FaultPlan.{landing_at, landing_from, landing_of_call, landing_of_key, without_key, IsFirstOf, IsNowhere};
 
 use crate::Key;
 use std::alloc::{AllocError, Global};
@@ -16,12 +16,14 @@ pub enum Landing {
     Never,
 }
 
-/// The calls that are to fail, by their numbers and by the keys that they create.
+/// The calls that are to fail, by their numbers, from a number on, and by the keys that they create.
 #[derive(Drop)]
 pub struct FaultPlan {
     pub made: u64,
     pub faults: u64,
     pub calls: Vec<(u64, Landing)>,
+    /// Each call from this number on, but for those that are named.
+    pub onward: Option<(u64, Landing)>,
     pub keys: Vec<(Key, Landing)>,
 }
 
@@ -35,6 +37,16 @@ fn landing_of_call(number: u64, calls: &[(u64, Landing)]) -> Option<Landing>
         }
     }
     None
+}
+
+// When the call with a number lands, where each from a number on is to fail.
+fn landing_from(number: u64, onward: Option<(u64, Landing)>) -> Option<Landing>
+    ensures { result ≡ landing_from number onward }
+{
+    match onward {
+        Some((first, landing)) if first <= number => Some(landing),
+        _ => None,
+    }
 }
 
 // Where the first entry of a key stands.
@@ -56,23 +68,41 @@ impl FaultPlan {
         ensures made { result.made ≡ 0 }
         ensures faults { result.faults ≡ 0 }
         ensures calls { result.calls.items ≡ [] }
+        ensures onward { result.onward ≡ None }
         ensures keys { result.keys.items ≡ [] }
     {
         FaultPlan {
             made: 0,
             faults: 0,
             calls: Vec::new(alloc),
+            onward: None,
             keys: Vec::new(alloc),
         }
     }
 
     /// A call begins. Says whether it fails by its number, and when it lands then.
     pub fn begin(&mut self) -> Option<Landing>
-        ensures answer { result ≡ landing_of_call (following self.old.made) self.old.calls.items }
+        ensures answer { result ≡ landing_at (following self.old.made) self.old }
         ensures counted { self.new ≡ record self.old { made = following self.old.made } }
     {
         self.made = self.made.saturating_add(1);
-        landing_of_call(self.made, &self.calls)
+        match landing_of_call(self.made, &self.calls) {
+            Some(landing) => Some(landing),
+            None => landing_from(self.made, self.onward),
+        }
+    }
+
+    /// No call is to fail from here on.
+    pub fn heal(&mut self)
+        ensures calls { self.new.calls.items ≡ [] }
+        ensures onward { self.new.onward ≡ None }
+        ensures keys { self.new.keys.items ≡ [] }
+        ensures made { self.new.made ≡ self.old.made }
+        ensures faults { self.new.faults ≡ self.old.faults }
+    {
+        self.calls.clear();
+        self.onward = None;
+        self.keys.clear();
     }
 
     /// Whether the next create of a key fails, and when it lands then.
@@ -90,6 +120,7 @@ impl FaultPlan {
         ensures keys { self.new.keys.items ≡ without_key key.now self.old.keys.items }
         ensures made { self.new.made ≡ self.old.made }
         ensures calls { self.new.calls.items ≡ self.old.calls.items }
+        ensures onward { self.new.onward ≡ self.old.onward }
         ensures faults { self.new.faults ≡ self.old.faults }
     {
         match place_of_key(key, &self.keys) {
