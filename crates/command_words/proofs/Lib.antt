@@ -1,2 +1,10 @@
-pub mod Refusing
+pub mod Values
+pub mod Walk
+pub mod Telling
+pub mod Parse
+pub mod Forms
+pub mod RunWords
+pub mod Alone
 pub mod Naming
+pub mod Rows
+pub mod Bounds
