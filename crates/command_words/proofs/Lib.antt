@@ -8,3 +8,11 @@ pub mod Alone
 pub mod Naming
 pub mod Rows
 pub mod Bounds
+pub mod Placed
+pub mod TextTelling
+pub mod SearchWords
+pub mod DeleteWords
+pub mod IngestWords
+pub mod HelpWords
+pub mod Standing
+pub mod ShorthandRows

@@ -1,3 +1,4 @@
 pub mod Options
 pub mod Parsing
 pub mod Words
+pub mod Shorthands

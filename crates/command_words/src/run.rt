@@ -30,7 +30,7 @@ pub struct RunOptions {
 }
 
 // An option whose value is a number within bounds.
-fn number_option<'a>(alloc: Global, name: &'a str, least: u64, most: u64) -> Arg<'a>
+pub(crate) fn number_option<'a>(alloc: Global, name: &'a str, least: u64, most: u64) -> Arg<'a>
     ensures rule { rule_of result ≡ option_rule (name.entry.now, value (number least most)) }
     ensures local { result.global ≡ false }
 {
@@ -39,7 +39,7 @@ fn number_option<'a>(alloc: Global, name: &'a str, least: u64, most: u64) -> Arg
         .value_parser(ValueParser::unsigned(least, most))
 }
 
-fn flag<'a>(alloc: Global, name: &'a str) -> Arg<'a>
+pub(crate) fn flag<'a>(alloc: Global, name: &'a str) -> Arg<'a>
     ensures rule { rule_of result ≡ option_rule (name.entry.now, nothing) }
     ensures local { result.global ≡ false }
 {
@@ -58,14 +58,14 @@ fn run_command<'a>(alloc: Global) -> Result<clap::Command<'a>, AllocError>
 }
 
 // The number that is told for a name.
-fn number_given(matches: &ArgMatches, name: &str) -> Option<u64>
+pub(crate) fn number_given(matches: &ArgMatches, name: &str) -> Option<u64>
     ensures { result ≡ number_told name.now (rows_of (found_of matches.now)) }
 {
     matches.get_one::<u64>(name)
 }
 
 // Whether the name stands among the words.
-fn is_given(matches: &ArgMatches, name: &str) -> bool
+pub(crate) fn is_given(matches: &ArgMatches, name: &str) -> bool
     ensures { result ≡ is_told name.now (rows_of (found_of matches.now)) }
 {
     match matches.value_source(name) {

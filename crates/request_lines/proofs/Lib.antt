@@ -1,0 +1,4 @@
+pub mod OneLine
+pub mod Among
+pub mod Reading
+pub mod Depths
