@@ -2,3 +2,4 @@ pub mod OneLine
 pub mod Among
 pub mod Reading
 pub mod Depths
+pub mod RunningWords

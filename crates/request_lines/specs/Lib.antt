@@ -1,3 +1,4 @@
 pub mod Asked
 pub mod Schedule
 pub mod Asking
+pub mod Ingesting
