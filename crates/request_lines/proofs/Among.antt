@@ -39,13 +39,14 @@ module _ (place : KeyPlace) where
 
   pub known_put : (k : List ℕ) (d : Data) (ms : Members) → is_known place k ≡ true → AreKnown ms → AreKnown (put k d ms)
   known_put k d no_members known are = rw known refl
-  known_put k d (member l e ms) known are = go (slice_cmp nat_cmp k l) (is_known place l) refl
+  known_put k d (member l e ms) known are = go (slice_cmp nat_cmp k l) (is_known place l) refl (λ below. known_put k d ms known below)
     where
-      go : (o : Ordering) (b : Bool) → is_known place l ≡ b → AreKnown (match_ordering o (member k d (member l e ms)) (member l d ms) (member l e (put k d ms)))
-      go Less b is = rw known are
-      go Equal b is = are
-      go Greater true is = rw is (known_put k d ms known (rw is at are))
-      go Greater false is = let bad : Some l ≡ None = rw is at are in cc
+      go : (o : Ordering) (b : Bool) → is_known place l ≡ b → (AreKnown ms → AreKnown (put k d ms))
+          → AreKnown (match_ordering o (member k d (member l e ms)) (member l d ms) (member l e (put k d ms)))
+      go Less b is later = rw known are
+      go Equal b is later = are
+      go Greater true is later = rw is (later (rw is at are))
+      go Greater false is later = let bad : Some l ≡ None = rw is at are in cc
 
   pub known_if : (k : List ℕ) (o : Option Data) (ms : Members) → is_known place k ≡ true → AreKnown ms → AreKnown (put_if k o ms)
   unfolding put_if

@@ -60,9 +60,6 @@ letter_above x is = first ((x == 34) || (x == 92)) refl is
     own false true f g is e = let h : x ≡ 92 = eqb-true x 92 g in omega arith
     own false false f g is e = absurd cc
 
-    rest : ℕ
-    rest = cond (x == 8) 98 (cond (x == 12) 102 (cond (x == 10) 110 (cond (x == 13) 114 (cond (x == 9) 116 0))))
-
     first : (b : Bool) → ((x == 34) || (x == 92)) ≡ b → nat_lt 0 (cond b x (cond (x == 8) 98 (cond (x == 12) 102 (cond (x == 10) 110 (cond (x == 13) 114 (cond (x == 9) 116 0)))))) ≡ true
         → IsNoFeed (cond b x (cond (x == 8) 98 (cond (x == 12) 102 (cond (x == 10) 110 (cond (x == 13) 114 (cond (x == 9) 116 0))))))
     first true e is = own (x == 34) (x == 92) refl refl e
@@ -74,9 +71,9 @@ byte_above x = go (nat_lt 0 (escape_letter x)) refl (nat_lt x 32) refl
   where
     go : (b : Bool) → nat_lt 0 (escape_letter x) ≡ b → (c : Bool) → nat_lt x 32 ≡ c
         → IsOneLine (cond b (92 ∷ escape_letter x ∷ []) (cond c (92 ∷ 117 ∷ 48 ∷ 48 ∷ digit_char (x / 16) ∷ digit_char (x % 16) ∷ []) (x ∷ [])))
-    go true e c f = (above 92 (omega arith), letter_above x e, tt)
-    go false e true f = (above 92 (omega arith), above 117 (omega arith), above 48 (omega arith), above 48 (omega arith), digit_above (x / 16), digit_above (x % 16), tt)
-    go false e false f = ((λ is. grind (arith, nat_tests)), tt)
+    go true e c f = (above 92 (omega arith), (letter_above x e, tt))
+    go false e true f = (above 92 (omega arith), (above 117 (omega arith), (above 48 (omega arith), (above 48 (omega arith), (digit_above (x / 16), (digit_above (x % 16), tt))))))
+    go false e false f = ((λ is. let bad : nat_lt 10 32 ≡ false = subst (λ (y : ℕ). nat_lt y 32 ≡ false) is f in cc), tt)
 
 escaped : (s : List ℕ) → IsOneLine (escape s)
 escaped [] = tt
@@ -93,7 +90,7 @@ after_one [] c low is line = tt
 after_one (x ∷ xs) c low is line = ((λ e. let same : x ≡ c = eqb-true x c is in omega arith), line)
 
 digit_no_feed : (x : ℕ) → is_ascii_digit x ≡ true → IsNoFeed x
-digit_no_feed x is e = let bad : is_ascii_digit 10 ≡ true = subst (λ y. is_ascii_digit y ≡ true) e is in cc
+digit_no_feed x is e = let bad : is_ascii_digit 10 ≡ true = subst (λ (y : ℕ). is_ascii_digit y ≡ true) e is in cc
 
 digits_passed : (t : List ℕ) → IsOneLine (drop (prefix_len is_ascii_digit t) t) → IsOneLine t
 digits_passed [] line = tt
@@ -181,9 +178,9 @@ token_line end_array is = (above 93 (omega arith), tt)
 token_line (key s) is = joined (quoted s) (58 ∷ []) (quoted_line s) (above 58 (omega arith), tt)
 token_line (string s) is = quoted_line s
 token_line (number s) is = number_line s is
-token_line (boolean true) is = (above 116 (omega arith), above 114 (omega arith), above 117 (omega arith), above 101 (omega arith), tt)
-token_line (boolean false) is = (above 102 (omega arith), above 97 (omega arith), above 108 (omega arith), above 115 (omega arith), above 101 (omega arith), tt)
-token_line null is = (above 110 (omega arith), above 117 (omega arith), above 108 (omega arith), above 108 (omega arith), tt)
+token_line (boolean true) is = (above 116 (omega arith), (above 114 (omega arith), (above 117 (omega arith), (above 101 (omega arith), tt))))
+token_line (boolean false) is = (above 102 (omega arith), (above 97 (omega arith), (above 108 (omega arith), (above 115 (omega arith), (above 101 (omega arith), tt)))))
+token_line null is = (above 110 (omega arith), (above 117 (omega arith), (above 108 (omega arith), (above 108 (omega arith), tt))))
 token_line bad is = tt
 
 separator_line : (b : Bool) (t : Token) → IsOneLine (separator b t)

@@ -66,7 +66,7 @@ selection_reads ms query field from to has =
     let paths = paths_kept (codes "search_field") field in
     let start = second_kept (codes "start_timestamp") from in
     let end = second_kept (codes "end_timestamp") to in
-    rw (q, f, s, e, paths, start, end) refl
+    rw (q, f, paths, s, start, e, end) refl
 
 -- ---- a search
 
@@ -106,7 +106,7 @@ written_reads ms o aggs has =
     let offset = count_kept (codes "start_offset") o.offset in
     let hits = count_kept (codes "max_hits") o.max_hits in
     let sort = sort_kept (codes "sort_by") o.sort in
-    rw (selection, f, h, s, a, offset, hits, sort) refl
+    rw (selection, f, offset, h, hits, s, sort, a) refl
 
 -- what is asked last may be asked within
 reach_last : (o : SearchOptions) (selection : Result Selection RequestError) (offset hits : Result (Option ℕ) RequestError) (aggs : Result (List AskedAgg) RequestError)
