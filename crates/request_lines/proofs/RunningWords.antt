@@ -52,7 +52,7 @@ module _ (w : List ℕ) (n : ℕ) (w_plain : IsPlain w) (is : number_of w ≡ So
       let dashes = w_plain.dashes in
       let long = w_plain.long in
       let short = w_plain.short in
-      rw (dashes, long, short, is, within) refl
+      rw (dashes, long, short, is, within, is) refl
 
 pub ingest_is_run : (n : ℕ) → 1 ≤ n → n ≤ 64
     → command_of (codes "run" ∷ codes "--indexers" ∷ decimal n ∷ codes "--searchers" ∷ codes "1" ∷ codes "--turns" ∷ codes "1000000" ∷ []) ≡ Some (Run (ingest_run n))
