@@ -18,7 +18,7 @@ or_else None later = later
 or_else (Some d) later = Some d
 
 apart : (q k : List ℕ) → bytes_eq q k ≡ false → q ≡ k → ⊥
-apart q k no e = let bad : true ≡ false = sym ((bytes_eq-Decides q k).1 e) ∙ no in cc
+apart q k differs e = let bad : true ≡ false = sym ((bytes_eq-Decides q k).1 e) ∙ differs in cc
 
 pub at_key : (k : List ℕ) (o : Option Data) (ms : Members) → get_member k (put_if k o ms) ≡ or_else o (get_member k ms)
 unfolding put_if
@@ -26,12 +26,12 @@ at_key k None ms = refl
 at_key k (Some d) ms = get_member-put k d ms
 
 pub past_put : (q k : List ℕ) (d : Data) (ms : Members) → bytes_eq q k ≡ false → get_member q (put k d ms) ≡ get_member q ms
-past_put q k d ms no = get_member-put_other q k d ms (apart q k no)
+past_put q k d ms differs = get_member-put_other q k d ms (apart q k differs)
 
 pub past : (q k : List ℕ) (o : Option Data) (ms : Members) → bytes_eq q k ≡ false → get_member q (put_if k o ms) ≡ get_member q ms
 unfolding put_if
-past q k None ms no = refl
-past q k (Some d) ms no = past_put q k d ms no
+past q k None ms differs = refl
+past q k (Some d) ms differs = past_put q k d ms differs
 
 module _ (place : KeyPlace) where
   abbrev pub AreKnown : Members → Type 0

@@ -1,5 +1,5 @@
 -- What the printer of JSON writes has no line feed.
-use Rattle.std.proofs.Common.{◌≡◌, ℕ, zero, suc, ◌<◌, ◌≤◌, ◌/◌, ◌%◌, ◌&&◌, ◌||◌, ◌==◌, Bool, true, false, cond, List, [], ◌∷◌, ◌++◌, length, drop, nat_lt, nat_le, eqb-true, ltb-true, Option, Some, None, refl, sym, ap, ◌∙◌, subst, arith, option_and_then}
+use Rattle.std.proofs.Common.{◌≡◌, ℕ, zero, suc, ◌+◌, ◌<◌, ◌≤◌, ◌/◌, ◌%◌, ◌&&◌, ◌||◌, ◌==◌, Bool, true, false, cond, List, [], ◌∷◌, ◌++◌, length, drop, nat_lt, nat_le, eqb-true, ltb-true, Option, Some, None, refl, sym, ap, ◌∙◌, subst, arith, option_and_then}
 use Rattle.std.proofs.lemmas.Bool.Decides.{nat_tests}
 use Rattle.std.specs.Prelude.{⊤, flat_map}
 use Rattle.std.specs.Char.{digit_char, is_ascii_digit}
@@ -41,19 +41,19 @@ letter_above x is = first ((x == 34) || (x == 92)) refl is
 
     fourth : (b : Bool) (y : ℕ) → (nat_lt 0 y ≡ true → IsNoFeed y) → nat_lt 0 (cond b 114 y) ≡ true → IsNoFeed (cond b 114 y)
     fourth true y later is e = omega arith
-    fourth false y later is = later is
+    fourth false y later is e = later is e
 
     third : (b : Bool) (y : ℕ) → (nat_lt 0 y ≡ true → IsNoFeed y) → nat_lt 0 (cond b 110 y) ≡ true → IsNoFeed (cond b 110 y)
     third true y later is e = omega arith
-    third false y later is = later is
+    third false y later is e = later is e
 
     twelfth : (b : Bool) (y : ℕ) → (nat_lt 0 y ≡ true → IsNoFeed y) → nat_lt 0 (cond b 102 y) ≡ true → IsNoFeed (cond b 102 y)
     twelfth true y later is e = omega arith
-    twelfth false y later is = later is
+    twelfth false y later is e = later is e
 
     eighth : (b : Bool) (y : ℕ) → (nat_lt 0 y ≡ true → IsNoFeed y) → nat_lt 0 (cond b 98 y) ≡ true → IsNoFeed (cond b 98 y)
     eighth true y later is e = omega arith
-    eighth false y later is = later is
+    eighth false y later is e = later is e
 
     own : (a b : Bool) → (x == 34) ≡ a → (x == 92) ≡ b → (a || b) ≡ true → IsNoFeed x
     own true b f g is e = let h : x ≡ 34 = eqb-true x 34 f in omega arith

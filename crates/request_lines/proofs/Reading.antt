@@ -1,5 +1,6 @@
 -- The request's reader reads what options ask.
-use Rattle.std.proofs.Common.{◌≡◌, ℕ, ◌^◌, Bool, true, false, List, [], ◌∷◌, Option, Some, None, Result, Ok, Err, refl, sym, ap, ap₂, ◌∙◌, bytes_eq, codes, nat_le, nat_lt, option_map, unwrap_or, if◌then◌else◌, pos, ℤ}
+use Rattle.std.proofs.Common.{◌≡◌, ℕ, ◌^◌, arith, Bool, true, false, List, [], ◌∷◌, Option, Some, None, Result, Ok, Err, refl, sym, ap, ap₂, ◌∙◌, bytes_eq, codes, nat_le, nat_lt, option_map, unwrap_or, if◌then◌else◌, pos, ℤ}
+use Rattle.std.proofs.lemmas.Bool.{le-leb}
 use Rattle.serde_json.specs.Data.{Data, Members, no_members, member, number, unsigned, string, object, put}
 use Rattle.serde_json.specs.Find.{as_i64, as_number, as_object, as_str, as_u64, get_member}
 use Rattle.command_words.specs.declared.delete.DeleteOptions.{DeleteOptions}
@@ -32,7 +33,9 @@ second_kept key (Some n) = go (nat_lt n (2 ^ 63))
 
 count_kept : (key : List ℕ) (o : Option ℕ) → kept key (count_of 0 max_count) (number_data o) ≡ asked_count key o
 count_kept key None = refl
-count_kept key (Some n) = go (nat_le n max_count)
+count_kept key (Some n) =
+    let low : nat_le 0 n ≡ true = le-leb 0 n (omega arith) in
+    rw low (go (nat_le n max_count))
   where
     go : (b : Bool) → of_kind {A = ℕ} key (if b then Some n else None) ≡ (if b then Ok (Some n) else Err (WrongKind key))
     go true = refl
@@ -166,22 +169,22 @@ module _ (o : SearchOptions) (aggs : Option Data) where
 
   -- a key that is put before the last ones
   past_aggs : (q : List ℕ) → bytes_eq q (codes "aggs") ≡ false → get_member q with_aggs ≡ get_member q with_sort
-  past_aggs q no = past q (codes "aggs") aggs with_sort no
+  past_aggs q differs = past q (codes "aggs") aggs with_sort differs
 
   past_sort : (q : List ℕ) → bytes_eq q (codes "sort_by") ≡ false → get_member q with_sort ≡ get_member q with_end
-  past_sort q no = past q (codes "sort_by") (text_data o.sort) with_end no
+  past_sort q differs = past q (codes "sort_by") (text_data o.sort) with_end differs
 
   past_end : (q : List ℕ) → bytes_eq q (codes "end_timestamp") ≡ false → get_member q with_end ≡ get_member q with_start
-  past_end q no = past q (codes "end_timestamp") (number_data o.to) with_start no
+  past_end q differs = past q (codes "end_timestamp") (number_data o.to) with_start differs
 
   past_start : (q : List ℕ) → bytes_eq q (codes "start_timestamp") ≡ false → get_member q with_start ≡ get_member q with_offset
-  past_start q no = past q (codes "start_timestamp") (number_data o.from) with_offset no
+  past_start q differs = past q (codes "start_timestamp") (number_data o.from) with_offset differs
 
   past_offset : (q : List ℕ) → bytes_eq q (codes "start_offset") ≡ false → get_member q with_offset ≡ get_member q with_hits
-  past_offset q no = past q (codes "start_offset") (number_data o.offset) with_hits no
+  past_offset q differs = past q (codes "start_offset") (number_data o.offset) with_hits differs
 
   past_hits : (q : List ℕ) → bytes_eq q (codes "max_hits") ≡ false → get_member q with_hits ≡ get_member q query_only
-  past_hits q no = past q (codes "max_hits") (number_data o.max_hits) query_only no
+  past_hits q differs = past q (codes "max_hits") (number_data o.max_hits) query_only differs
 
   none_later : (d : Option Data) → or_else d None ≡ d
   none_later None = refl
@@ -252,13 +255,13 @@ module _ (o : DeleteOptions) where
   and_end = put_if (codes "end_timestamp") (number_data o.to) and_start
 
   by_end : (q : List ℕ) → bytes_eq q (codes "end_timestamp") ≡ false → get_member q and_end ≡ get_member q and_start
-  by_end q no = past q (codes "end_timestamp") (number_data o.to) and_start no
+  by_end q differs = past q (codes "end_timestamp") (number_data o.to) and_start differs
 
   by_start : (q : List ℕ) → bytes_eq q (codes "start_timestamp") ≡ false → get_member q and_start ≡ get_member q and_field
-  by_start q no = past q (codes "start_timestamp") (number_data o.from) and_field no
+  by_start q differs = past q (codes "start_timestamp") (number_data o.from) and_field differs
 
   by_field : (q : List ℕ) → bytes_eq q (codes "search_field") ≡ false → get_member q and_field ≡ get_member q only
-  by_field q no = past q (codes "search_field") (text_data o.field) only no
+  by_field q differs = past q (codes "search_field") (text_data o.field) only differs
 
   later_none : (d : Option Data) → or_else d None ≡ d
   later_none None = refl

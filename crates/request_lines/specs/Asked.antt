@@ -1,5 +1,5 @@
 -- The requests that options ask: as JSON, and as the request's reader reads it.
-use Rattle.std.specs.Prelude.{◌≡◌, ¬◌, ℕ, ◌≤◌, ◌^◌, nat_le, nat_lt, List, [], ◌∷◌, Option, Some, None, option_map, unwrap_or, pos, ℤ, codes, Result, Ok, Err, if◌then◌else◌}
+use Rattle.std.specs.Prelude.{◌≡◌, ℕ, ◌≤◌, ◌^◌, nat_le, nat_lt, List, [], ◌∷◌, Option, Some, None, option_map, unwrap_or, pos, ℤ, codes, Result, Ok, Err, if◌then◌else◌}
 use Rattle.std.specs.List.{AllByRecursion}
 use Rattle.serde_json.specs.Data.{Data, Members, no_members, member, number, unsigned, string, object, put, depth}
 use Rattle.serde_json.specs.Read.{max_depth, read}

@@ -1,5 +1,5 @@
 -- The whole schedules of a search and of a delete.
-use Rattle.std.specs.Prelude.{◌≡◌, ¬◌, ℕ, List, ◌++◌, codes, Result, Ok, Err}
+use Rattle.std.specs.Prelude.{◌≡◌, ℕ, List, ◌++◌, codes, Result, Ok, Err}
 use Rattle.command_words.specs.declared.delete.DeleteOptions.{DeleteOptions}
 use Rattle.command_words.specs.declared.search.SearchOptions.{SearchOptions}
 use Rattle.search_api.specs.Answers.{IsMemory}

@@ -10,6 +10,7 @@ use serde_json::{Map, Value, put};
 use std::alloc::{AllocError, Global};
 
 // The text at a key, if there is one.
+#[tactic(auto, unfolding(crate::specs::Asked::put_if))]
 fn put_text(
     members: &mut Map<String, Value>,
     alloc: Global,
@@ -28,6 +29,7 @@ fn put_text(
 }
 
 // The number at a key, if there is one.
+#[tactic(auto, unfolding(crate::specs::Asked::put_if))]
 fn put_number(
     members: &mut Map<String, Value>,
     alloc: Global,
@@ -43,6 +45,7 @@ fn put_number(
 }
 
 // The value at a key, if there is one.
+#[tactic(auto, unfolding(crate::specs::Asked::put_if))]
 fn put_value(
     members: &mut Map<String, Value>,
     alloc: Global,
