@@ -1,0 +1,3 @@
+pub mod Configured
+pub mod Seconds
+pub mod Dealing

@@ -43,8 +43,8 @@ second_text index = codes "2023-11-" ++ two_digits (14 + (80000 + index) / 86400
 
 abbrev pub record_text : ℕ → ℕ → List ℕ
 record_text index drawn =
-    codes "{\"ts\":\"" ++ second_text index ++ codes "\",\"level\":\"" ++ level (drawn % 4)
-    ++ codes "\",\"body\":\"" ++ word (drawn / 4 % 16) ++ 32 ∷ word (drawn / 64 % 16)
+    codes "{\"ts\":" ++ codes "\"" ++ second_text index ++ codes "\",\"level\":\"" ++ level (drawn % 4)
+    ++ codes "\",\"body\":\"" ++ word (drawn / 4 % 16) ++ codes " " ++ word (drawn / 64 % 16)
     ++ codes "\",\"status\":" ++ decimal (200 + drawn / 1024 % 400) ++ codes "}"
 
 -- the record of a place, from 0

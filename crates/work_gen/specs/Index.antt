@@ -29,8 +29,8 @@ index =
       commit_timeout = 60;
       docs_target = 1000;
       policy = StableLog 100 10 12 172800;
-      staged_grace = 86400;
-      deletion_grace = 120;
+      staged_grace = 3600;
+      deletion_grace = 1800;
       retention = None;
     }
 

@@ -1,0 +1,2 @@
+pub mod WholeFile
+pub mod WholeIndex
