@@ -1,15 +1,19 @@
 -- What is answered of a store that was opened.
-use Rattle.std.proofs.Common.{◌≡◌, ℕ, List, length, map, sym, ap, subst, ◌∙◌, inl, inr}
-use Rattle.std.specs.Prelude.{Option, Some, Result, Ok, Err, IfOk, IfErr, sum_by}
-use Rattle.std.proofs.lemmas.List.{length-map}
+use Rattle.std.proofs.Common.{◌≡◌, ℕ, suc, ◌+◌, List, [], ◌∷◌, length, map, refl, sym, ap, subst, ◌∙◌, inl, inr, arith}
+use Rattle.std.specs.Prelude.{Option, Some, Result, Ok, Err, IfOk, fold, sum_by}
+use Rattle.std.specs.List.{AllByRecursion}
+use Rattle.byte_fields.specs.Causes.{Rose}
+use Rattle.doc_value.specs.declared.schema.Schema.{Schema}
 use Rattle.index_config.specs.declared.config.IndexConfig.{IndexConfig}
 use Rattle.meta_journal.specs.declared.entry.Entry.{Entry}
 use Rattle.meta_store.specs.History.{history}
+use Rattle.meta_store.specs.Planning.{every}
 use Rattle.meta_store.specs.State as meta
 use Rattle.meta_store.specs.State.{state_of}
 use Rattle.object_store.proofs.Landings.{HasLanded-trans}
 use Rattle.object_store.specs.Store.{State, HasLanded}
 use Rattle.split_states.specs.declared.rows.Row.{Row}
+use Rattle.index_world.proofs.Numbers.{revision_is}
 use Rattle.index_world.specs.Config.{reads}
 use Rattle.index_world.specs.Configuration.{configuration, index_of}
 use Rattle.index_world.specs.Opened.{OpensIndex, OpensNot}
@@ -18,7 +22,7 @@ use Rattle.index_world.specs.World.{Keeping}
 use Rattle.index_world.specs.declared.world_error.WorldError.{WorldError}
 use Rattle.index_world.specs.declared.world_error.WorldError.TheVariants as errors
 use Rattle.index_check.proofs.Journal.{journal_of}
-use Rattle.index_check.specs.WholeIndex.{Checks, ChecksNot, ChecksWorld, FailsAt, HasWholeFile, IsFaultNow, IsJournalOf, IsWholeIndex, JudgesFiles, published, row_file, files_of, whole_of}
+use Rattle.index_check.specs.WholeIndex.{Checks, ChecksNot, ChecksWorld, FailsAt, FilesFail, HasWholeFile, IsFaultNow, IsUnwhole, IsJournalOf, IsWholeIndex, JudgesFiles, published, row_file, files_of, whole_of}
 use Rattle.index_check.specs.declared.checking.Whole.{Whole}
 use Rattle.index_check.specs.declared.listing.RowFile.{RowFile}
 
@@ -36,20 +40,86 @@ opens_none before after (errors.Expired planned_at reached) old now o = o
 opens_none before after errors.IndexExists old now o = o
 opens_none before after (errors.BadConfig bad) old now o = o
 
+docs_from : (rows : List Row) (n : ℕ) → fold (λ (a : ℕ) (file : RowFile). a + file.facts.docs) n (map row_file rows) ≡ fold (λ (a : ℕ) (row : Row). a + row.facts.docs) n rows
+docs_from [] n = refl
+docs_from (row ∷ rows) n = docs_from rows (n + row.facts.docs)
+
 docs_same : (rows : List Row) → sum_by (λ file. file.facts.docs) (map row_file rows) ≡ sum_by (λ row. row.facts.docs) rows
-docs_same rows = ?
+docs_same rows = docs_from rows 0
+
+count_same : (rows : List Row) → length (map row_file rows) ≡ length rows
+count_same [] = refl
+count_same (row ∷ rows) = ap suc (count_same rows)
+
+-- what is said of the journal that was found, also behind more landings
+record Behind (entries : List Entry) (config : IndexConfig) (world : meta.State) (old now : State) : Type 0 where
+  state : world ≡ state_of reads (history entries)
+  journal : IsJournalOf entries config old now
+
+behind_files : (entries : List Entry) (config : IndexConfig) (world : meta.State) (old now : State) → Behind entries config world old now → map row_file (every world.rows) ≡ files_of entries
+behind_files entries config world old now b = ap (λ (s : meta.State). map row_file (every s.rows)) b.state
+
+fails_so : {Fails : Schema → State → RowFile → Type 0} (entries : List Entry) (config : IndexConfig) (world : meta.State) (key : List ℕ) (old now : State) → Behind entries config world old now →
+    FailsAt Fails config.schema (map row_file (every world.rows)) key now → IsUnwhole Fails key old now
+fails_so {Fails} entries config world key old now b f = record {
+  entries = entries;
+  config = config;
+  journal = b.journal;
+  first = subst (λ (files : List RowFile). FailsAt Fails config.schema files key now) (behind_files entries config world old now b) f;
+}
+
+none_whole : (entries : List Entry) (config : IndexConfig) (world : meta.State) (error : WorldError) (old mid now : State) → Behind entries config world old now → HasLanded old now →
+    FilesFail config.schema (map row_file (every world.rows)) error now → ChecksNot error old now
+none_whole entries config world (errors.Missing key) old mid now b landed f = fails_so entries config world key old now b f
+none_whole entries config world (errors.Corrupt key) old mid now b landed f = inr (fails_so entries config world key old now b f)
+none_whole entries config world (errors.StoreFault low high) old mid now b landed f = landed
+none_whole entries config world (errors.Memory e) old mid now b landed f = landed
+none_whole entries config world errors.NoIndex old mid now b landed f = absurd f
+none_whole entries config world (errors.Foreign key) old mid now b landed f = absurd f
+none_whole entries config world (errors.Refused refusal) old mid now b landed f = absurd f
+none_whole entries config world errors.Full old mid now b landed f = absurd f
+none_whole entries config world (errors.Expired planned_at reached) old mid now b landed f = absurd f
+none_whole entries config world errors.IndexExists old mid now b landed f = absurd f
+none_whole entries config world (errors.BadConfig bad) old mid now b landed f = absurd f
+
+all_whole : (entries : List Entry) (config : IndexConfig) (world : meta.State) (whole : Whole) (old now : State) → Behind entries config world old now →
+    AllByRecursion (HasWholeFile config.schema now) (map row_file (every world.rows)) → whole ≡ whole_of world.revision (map row_file (every world.rows)) → IsWholeIndex whole old now
+all_whole entries config world whole old now b all is =
+    let files = behind_files entries config world old now b in
+    record {
+      entries = entries;
+      config = config;
+      journal = b.journal;
+      files = subst (λ (files : List RowFile). AllByRecursion (HasWholeFile config.schema now) files) files all;
+      revision = ap (λ (w : Whole). w.revision) is ∙ ap (λ (s : meta.State). s.revision) b.state ∙ revision_is entries;
+      splits = ap (λ (w : Whole). w.splits) is ∙ ap length files ∙ count_same (published entries);
+      docs = ap (λ (w : Whole). w.docs) is ∙ ap (λ (l : List RowFile). sum_by (λ file. file.facts.docs) l) files ∙ docs_same (published entries);
+    }
 
 -- the files of an index that was opened were judged
 pub opens_checks : (world : Keeping) (answer : Result Whole WorldError) (old mid now : State) → OpensIndex world old mid → ChecksWorld world.meta answer mid now → Checks answer old now
 opens_checks world answer old mid now o c = by answer c.2 c.3
   where
-    state_is : world.meta ≡ state_of reads (history o.entries)
-    state_is = o.meta
     configured : configuration o.entries ≡ Some c.0
     configured = ap (λ (s : meta.State). index_of s.config) (sym o.meta) ∙ c.1
-    files_are : map row_file (every world.meta.rows) ≡ files_of o.entries
-    files_are = ap (λ (s : meta.State). map row_file (every s.rows)) o.meta
-    journal : HasLanded mid now → IsJournalOf o.entries c.0 old now
-    journal landed = journal_of o.entries c.0 old mid now o.finds landed configured
+    behind : HasLanded mid now → Behind o.entries c.0 world.meta old now
+    behind landed = record { state = o.meta; journal = journal_of o.entries c.0 old mid now o.finds landed configured }
+    landed : HasLanded mid now → HasLanded old now
+    landed l = HasLanded-trans old mid now (HasLanded-trans old o.finds.mid mid o.finds.before o.finds.behind) l
     by : (r : Result Whole WorldError) → JudgesFiles c.0.schema (map row_file (every world.meta.rows)) r mid now → IfOk r (λ whole. whole ≡ whole_of world.meta.revision (map row_file (every world.meta.rows))) → Checks r old now
-    by r j w = ?
+    by (Ok whole) j w = all_whole o.entries c.0 world.meta whole old now (behind j.0) j.1 w
+    by (Err error) j w = none_whole o.entries c.0 world.meta error old mid now (behind j.0) (landed j.0) j.1
+
+-- a fault between two counts has the last one
+pub fault_now : (before now : ℕ) (error : WorldError) → IsFaultBetween before now error → IsFaultNow now error
+fault_now before now (errors.StoreFault low high) f = (f.1, subst (λ (n : ℕ). Rose n now) (sym f.0) f.2)
+fault_now before now (errors.Memory e) f = tt
+fault_now before now (errors.Refused refusal) f = tt
+fault_now before now (errors.Missing key) f = tt
+fault_now before now (errors.Corrupt key) f = tt
+fault_now before now (errors.Foreign key) f = tt
+fault_now before now errors.Full f = tt
+fault_now before now (errors.Expired planned_at reached) f = tt
+fault_now before now errors.NoIndex f = tt
+fault_now before now errors.IndexExists f = tt
+fault_now before now (errors.BadConfig bad) f = tt

@@ -8,12 +8,9 @@ use Rattle.split_bundle.specs.declared.placed.Placed.{Placed}
 use Rattle.split_form.specs.Facts.{facts_of}
 use Rattle.split_form.specs.Form.{file_of}
 use Rattle.split_states.specs.declared.facts.RowFacts.{RowFacts}
-use Rattle.index_check.specs.WholeFile.{IsWholeFile}
+use Rattle.index_check.specs.WholeFile.{AreSame, IsWholeFile}
 
--- what is built, and that it is the same
-abbrev pub AreSame : BuiltSplit → RowFacts → List ℕ → Type 0
-AreSame split facts bytes = (split.bytes ≡ bytes) × (record split.facts { rejected = facts.rejected } ≡ facts)
-
+-- what is built of documents is their file, with its facts
 abbrev pub IsFileOf : Schema → List Placed → BuiltSplit → Type 0
 IsFileOf s documents split = (split.bytes ≡ file_of s documents) × (split.facts ≡ facts_of s documents 0)
 

@@ -4,6 +4,7 @@ use Rattle.std.specs.declared.alloc.AllocError.{AllocError}
 use Rattle.doc_value.specs.declared.schema.Schema.{Schema}
 use Rattle.split_build.specs.declared.build_error.BuildError.{BuildError}
 use Rattle.split_build.specs.declared.build_error.BuildError.TheVariants as building
+use Rattle.split_build.specs.declared.builder.BuiltSplit.{BuiltSplit}
 use Rattle.split_bundle.specs.Splits.{IsSplit}
 use Rattle.split_bundle.specs.declared.placed.Placed.{Placed}
 use Rattle.split_bundle.specs.declared.split_error.SplitError.{SplitError}
@@ -19,6 +20,10 @@ pub record IsWholeFile (s : Schema) (facts : RowFacts) (bytes : List ℕ) : Type
   pub split : IsSplit s bytes documents
   pub built : bytes ≡ file_of s documents
   pub facts_are : facts ≡ facts_of s documents facts.rejected
+
+-- what was built has these bytes and, but for the number of refused records, these facts
+abbrev pub AreSame : BuiltSplit → RowFacts → List ℕ → Type 0
+AreSame split facts bytes = (split.bytes ≡ bytes) × (record split.facts { rejected = facts.rejected } ≡ facts)
 
 -- ---- what hinders
 

@@ -9,7 +9,7 @@ ghost use Rattle.split_bundle.specs.Files.{Parts};
 ghost use Rattle.split_bundle.specs.SplitViews.{IsViewOf};
 ghost use Rattle.split_bundle.specs.Splits.{IsSplit, max_weight};
 ghost use Rattle.split_bundle.specs.declared.placed.Placed.{Placed as Document};
-ghost use Rattle.index_check.specs.WholeFile.{IsWholeFile, if_read, if_taken};
+ghost use Rattle.index_check.specs.WholeFile.{AreSame, IsWholeFile, if_read, if_taken};
 
 use crate::comparing::same_facts;
 use doc_value::Schema;
@@ -121,6 +121,13 @@ fn rebuilt(
     }
 }
 
+// Whether what is built is these bytes, with these facts.
+fn is_same(split: &BuiltSplit, facts: &RowFacts, bytes: &[u8]) -> bool
+    ensures { IsTrue result ↔ AreSame split.now facts.now bytes.now }
+{
+    split.bytes.as_slice() == bytes && same_facts(&split.facts, facts)
+}
+
 /// Whether the bytes are the file of documents, the same that is built of them, and the facts are theirs.
 pub fn is_whole(
     alloc: Global,
@@ -134,7 +141,7 @@ pub fn is_whole(
     match rebuilt(alloc, schema, bytes)? {
         Some(split) => {
             built_is_one(&split);
-            Ok(split.bytes.as_slice() == bytes && same_facts(&split.facts, facts))
+            Ok(is_same(&split, facts, bytes))
         }
         None => Ok(false),
     }

@@ -1,4 +1,4 @@
-//! Rows that are tests: of blocks, fields, objects, checkpoints, logs, merge policies and turns.
+//! Rows that are tests: of blocks, fields, objects, checkpoints, logs, generated work, merge policies and turns.
 #![tactic(auto)]
 
 #[cfg(test)]
@@ -11,6 +11,8 @@ mod columns;
 mod dictionaries;
 #[cfg(test)]
 mod fields;
+#[cfg(test)]
+mod generated;
 #[cfg(test)]
 mod logs;
 #[cfg(test)]
