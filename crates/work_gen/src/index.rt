@@ -13,7 +13,8 @@ pub fn config() -> &'static str
     CONFIG
 }
 
-const CONFIG: &str = "version = \"0.9\"\nindex_id = \"generated\"\n[doc_mapping]\nmode = \"lenient\"\ntimestamp_field = \"ts\"\ntag_fields = [\"level\"]\n[[doc_mapping.field_mappings]]\nname = \"ts\"\ntype = \"datetime\"\nfast = true\n[[doc_mapping.field_mappings]]\nname = \"level\"\ntype = \"text\"\ntokenizer = \"raw\"\nfast = true\n[[doc_mapping.field_mappings]]\nname = \"body\"\ntype = \"text\"\nrecord = \"position\"\n[[doc_mapping.field_mappings]]\nname = \"status\"\ntype = \"u64\"\nfast = true\n[indexing_settings]\nsplit_num_docs_target = 1000\n[indexing_settings.merge_policy]\ntype = \"stable_log\"\nmin_level_num_docs = 100\n[search_settings]\ndefault_search_fields = [\"body\"]\n";
+const CONFIG: &str =
+    "version = \"0.9\"\nindex_id = \"generated\"\n[doc_mapping]\nmode = \"lenient\"\ntimestamp_field = \"ts\"\ntag_fields = [\"level\"]\n[[doc_mapping.field_mappings]]\nname = \"ts\"\ntype = \"datetime\"\nfast = true\n[[doc_mapping.field_mappings]]\nname = \"level\"\ntype = \"text\"\ntokenizer = \"raw\"\nfast = true\n[[doc_mapping.field_mappings]]\nname = \"body\"\ntype = \"text\"\nrecord = \"position\"\n[[doc_mapping.field_mappings]]\nname = \"status\"\ntype = \"u64\"\nfast = true\n[indexing_settings]\nsplit_num_docs_target = 1000\n[indexing_settings.merge_policy]\ntype = \"stable_log\"\nmin_level_num_docs = 100\n[search_settings]\ndefault_search_fields = [\"body\"]\n";
 
 /// The queries, by number.
 pub fn query(number: usize) -> &'static str

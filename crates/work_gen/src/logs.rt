@@ -1,6 +1,6 @@
 //! The generated records in their partitions.
 
-ghost use Rattle.std.specs.Prelude.{◌≡◌, ◌<◌, ◌≤◌, IfOk, All, length, vec_len};
+ghost use Rattle.std.specs.Prelude.{◌≡◌, ◌<◌, ◌≤◌, IfOk, All, vec_len};
 ghost use Rattle.work_gen.specs.Generated as spec;
 
 use crate::drawing::{drawn, step};
