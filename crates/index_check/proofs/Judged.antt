@@ -1,20 +1,23 @@
 -- What a store that was asked for files is found to have.
-use Rattle.std.proofs.Common.{◌≡◌, ◌⊎◌, ¬◌, ℕ, zero, suc, ◌+◌, ◌<◌, ◌≤◌, List, [], ◌∷◌, ◌++◌, length, take, drop, refl, sym, ap, subst, ◌∙◌, arith, append_assoc, take_all, inl, inr}
+use Rattle.std.proofs.Common.{◌≡◌, ◌⊎◌, ℕ, zero, suc, ◌+◌, ◌<◌, ◌≤◌, List, [], ◌∷◌, ◌++◌, length, take, drop, refl, sym, ap, subst, ◌∙◌, arith, append_assoc, get_or, take_all}
 use Rattle.std.specs.Prelude.{Bool, true, false, Option, Some, None, Result, Ok, Err, IfOk, IsTrue, ◌↔◌, ⊤}
 use Rattle.std.specs.FinMap.{get}
+use Rattle.std.specs.Result.{IsErrAnd}
+use Rattle.std.proofs.lemmas.List.{take-append-drop, take_more}
 use Rattle.std.specs.List.{AllByRecursion}
 use Rattle.std.specs.declared.alloc.AllocError.{AllocError}
 use Rattle.doc_value.specs.declared.schema.Schema.{Schema}
 use Rattle.meta_journal.specs.Places.{split_key}
 use Rattle.object_store.proofs.Landings.{HasLanded-refl, HasLanded-trans, Lands-from}
-use Rattle.object_store.specs.Store.{State, HasLanded, LandsThen, Finds, Gets, IsPieceOf}
+use Rattle.object_store.proofs.Told.{told_then}
+use Rattle.object_store.specs.Store.{State, HasLanded, LandsThen, Finds, Gets, IsPieceOf, WhereTold}
 use Rattle.object_store.specs.declared.store.GetError.{GetError}
 use Rattle.object_store.specs.declared.store.GetError.TheVariants as gets
 use Rattle.object_store.specs.declared.store.Piece.{Piece}
 use Rattle.index_world.specs.declared.world_error.WorldError.{WorldError}
 use Rattle.index_world.specs.declared.world_error.WorldError.TheVariants as errors
 use Rattle.split_states.specs.declared.facts.RowFacts.{RowFacts}
-use Rattle.index_check.proofs.Whole.{whole_size}
+use Rattle.index_check.proofs.Built.{whole_size}
 use Rattle.index_check.specs.WholeFile.{IsWholeFile}
 use Rattle.index_check.specs.WholeIndex.{FailsAt, FilesFail, HasBadFile, HasNoFile, HasWholeFile, JudgesFiles, JudgesPiece, JudgesUnder}
 use Rattle.index_check.specs.declared.listing.RowFile.{RowFile}
@@ -136,9 +139,6 @@ fail_among s front files more (errors.Expired planned_at reached) now all f = f
 fail_among s front files more errors.IndexExists now all f = f
 fail_among s front files more (errors.BadConfig bad) now all f = f
 
-done : Result ⊤ WorldError
-done = Ok tt
-
 -- one file more is whole
 pub judged_more : (s : Schema) (front files : List RowFile) (u v : ⊤) (o m n : State) → JudgesFiles {A = ⊤} s front (Ok u) o m → JudgesFiles {A = ⊤} s files (Ok v) m n → JudgesFiles {A = ⊤} s (front ++ files) (Ok tt) o n
 judged_more s front files u v o m n f g = (HasLanded-trans o m n f.0 g.0, all_append (HasWholeFile s n) front files (all_later s front m n g.0 f.1) g.1)
@@ -150,3 +150,24 @@ judged_fails s front files more error u o m n f g = (HasLanded-trans o m n f.0 g
 
 pub judged_none : (s : Schema) (o : State) → JudgesFiles {A = ⊤} s [] (Ok tt) o o
 judged_none s o = (HasLanded-refl o, tt)
+
+-- ---- over stores that may tell nothing
+
+pub files_fail : (a m b : Option State) (s : Schema) (front files more all : List RowFile) (error : WorldError) (r : Result ⊤ WorldError) → (front ++ files) ++ more ≡ all → IsErrAnd r (λ e. e ≡ error) →
+    WhereTold a m (JudgesFiles {A = ⊤} s front (Ok tt)) → WhereTold m b (JudgesFiles {A = ⊤} s files (Err error)) → WhereTold a b (JudgesFiles {A = ⊤} s all r)
+files_fail a m b s front files more all error (Ok u) e h f g = absurd h
+files_fail a m b s front files more all error (Err x) e h f g =
+    told_then a m b (λ o mid n p q. subst (λ (l : List RowFile). JudgesFiles {A = ⊤} s l (Err x) o n) e (subst (λ (y : WorldError). JudgesFiles {A = ⊤} s ((front ++ files) ++ more) (Err y) o n) (sym h)
+    (judged_fails {A = ⊤} s front files more error tt o mid n p q))) f g
+
+pub files_more : (a m b : Option State) (s : Schema) (front files all : List RowFile) (u : ⊤) → front ++ files ≡ all →
+    WhereTold a m (JudgesFiles {A = ⊤} s front (Ok tt)) → WhereTold m b (JudgesFiles {A = ⊤} s files (Ok u)) → WhereTold a b (JudgesFiles {A = ⊤} s all (Ok tt))
+files_more a m b s front files all u e f g =
+    told_then a m b (λ o mid n p q. subst (λ (l : List RowFile). JudgesFiles {A = ⊤} s l (Ok tt) o n) e (judged_more s front files tt u o mid n p q)) f g
+
+-- the rows with one more, and with those behind
+pub one_more : (files : List RowFile) (i : ℕ) (row : RowFile) → i < length files → row ≡ get_or files i row → take i files ++ row ∷ [] ≡ take (i + 1) files
+one_more files i row lt is = ap (λ (r : RowFile). take i files ++ r ∷ []) is ∙ sym (take_more files i row lt)
+
+pub all_of : (files : List RowFile) (i : ℕ) (row : RowFile) → i < length files → row ≡ get_or files i row → (take i files ++ row ∷ []) ++ drop (i + 1) files ≡ files
+all_of files i row lt is = ap (λ (l : List RowFile). l ++ drop (i + 1) files) (one_more files i row lt is) ∙ take-append-drop (i + 1) files

@@ -1,6 +1,6 @@
 pub mod Same
 pub mod Limits
-pub mod Whole
+pub mod Built
 pub mod Judged
 pub mod Journal
 pub mod Found

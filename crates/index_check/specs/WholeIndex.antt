@@ -1,5 +1,5 @@
 -- What a store is found to be where an index is checked.
-use Rattle.std.specs.Prelude.{◌≡◌, ◌⊎◌, ¬◌, ℕ, ◌<◌, List, ◌∷◌, ◌++◌, length, sum_by, slice_get, Option, Some, None, Result, Ok, Err, Bool, map, IfOk, IsTrue, ◌↔◌, ⊤}
+use Rattle.std.specs.Prelude.{◌≡◌, ◌⊎◌, ℕ, ◌<◌, List, ◌∷◌, ◌++◌, length, sum_by, slice_get, Option, Some, None, Result, Ok, Err, Bool, map, IfOk, IsTrue, ◌↔◌, ⊤}
 use Rattle.std.specs.FinMap.{get}
 use Rattle.std.specs.List.{AllByRecursion}
 use Rattle.std.specs.declared.alloc.AllocError.{AllocError}

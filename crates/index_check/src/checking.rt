@@ -6,7 +6,7 @@ ghost use Rattle.index_world.specs.Taking.{IsFaultBetween};
 ghost use Rattle.object_store.specs.Store.{WhereTold};
 ghost use Rattle.index_check.specs.WholeIndex.{Checks, ChecksWorld, IsFaultNow, JudgesFiles, whole_of};
 
-use crate::listing::{Published, published};
+use crate::listing::{Published, published_in};
 use crate::walking::{check_files, docs_of};
 use clock_time::ScriptClock;
 use index_world::{Unopened, World, WorldError};
@@ -59,7 +59,7 @@ pub fn check<S: ObjectStore>(alloc: Global, store: S) -> Checked<S>
     ensures found { WhereTold (S.told store) (S.told result.store) (Checks result.answer) }
 {
     match World::load(alloc, store, ScriptClock::at(0)) {
-        Ok(world) => checked(alloc, world),
+        Ok(world) => check_world(alloc, world),
         Err(unopened) => {
             let Unopened { error, store } = unopened;
             Checked {
@@ -71,12 +71,12 @@ pub fn check<S: ObjectStore>(alloc: Global, store: S) -> Checked<S>
 }
 
 // The same of the store of a world that was opened.
-fn checked<S: ObjectStore>(alloc: Global, world: World<S, ScriptClock>) -> Checked<S>
+fn check_world<S: ObjectStore>(alloc: Global, world: World<S, ScriptClock>) -> Checked<S>
     ensures faults { IfErr result.answer (IsFaultNow (S.fault_count result.store)) }
     ensures found { WhereTold world.told (S.told result.store) (ChecksWorld world.meta result.answer) }
 {
     let before = world.faults();
-    let found = published(alloc, &world);
+    let found = published_in(alloc, &world);
     let (store, clock) = world.unload();
     mem::drop(clock);
     let mut store = store;

@@ -44,7 +44,7 @@ fn row_files(alloc: Global, rows: &[Row]) -> Result<Vec<RowFile>, AllocError>
 }
 
 /// Those of a world.
-pub fn published<S: ObjectStore, C: SteadyClock>(
+pub fn published_in<S: ObjectStore, C: SteadyClock>(
     alloc: Global,
     world: &World<S, C>,
 ) -> Result<Published, AllocError>

@@ -5,6 +5,7 @@
 #![tactic(auto)]
 
 mod asked;
+mod checked;
 mod clients;
 mod counts;
 mod dice;

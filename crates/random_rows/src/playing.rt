@@ -1,6 +1,7 @@
 //! A schedule that is played: lines in any order over a node, in lives with failing calls and one without.
 
 use crate::asked::Asked;
+use crate::checked::judge_files;
 use crate::clients::{Clients, Request, name_of};
 use crate::counts::Counts;
 use crate::dice::Dice;
@@ -398,7 +399,6 @@ impl Schedule {
     fn judge(&mut self, store: FailingStore, faults: u64) -> Result<Counts, Wrong> {
         let mut store = store;
         let entries = self.journal(&mut store)?;
-        mem::drop(store);
         self.clients.judge(&self.plain, entries.as_slice())?;
         let shown = Shown::by(self.alloc, entries.as_slice())?;
         if !self.plain.is_shown(&shown) {
@@ -406,6 +406,7 @@ impl Schedule {
         }
         let documents = self.plain.documents();
         let left = self.plain.found(&shown, Asked::all())?.count;
+        judge_files(self.alloc, store, entries.len() as u64, left)?;
         Ok(Counts {
             entries: entries.len() as u64,
             answers: self.clients.answered() as u64,
