@@ -1,7 +1,8 @@
 -- What is answered of a store that was opened.
 use Rattle.std.proofs.Common.{◌≡◌, ℕ, suc, ◌+◌, List, [], ◌∷◌, length, map, refl, sym, ap, subst, ◌∙◌, inl, inr, arith}
-use Rattle.std.specs.Prelude.{Option, Some, Result, Ok, Err, IfOk, fold, sum_by}
+use Rattle.std.specs.Prelude.{Option, None, Some, Result, Ok, Err, IfErr, IfOk, fold, sum_by}
 use Rattle.std.specs.List.{AllByRecursion}
+use Rattle.std.specs.declared.alloc.AllocError.{AllocError}
 use Rattle.byte_fields.specs.Causes.{Rose}
 use Rattle.doc_value.specs.declared.schema.Schema.{Schema}
 use Rattle.index_config.specs.declared.config.IndexConfig.{IndexConfig}
@@ -10,8 +11,9 @@ use Rattle.meta_store.specs.History.{history}
 use Rattle.meta_store.specs.Planning.{every}
 use Rattle.meta_store.specs.State as meta
 use Rattle.meta_store.specs.State.{state_of}
-use Rattle.object_store.proofs.Landings.{HasLanded-trans}
-use Rattle.object_store.specs.Store.{State, HasLanded}
+use Rattle.object_store.proofs.Landings.{HasLanded-refl, HasLanded-trans}
+use Rattle.object_store.proofs.Told.{told_map}
+use Rattle.object_store.specs.Store.{State, HasLanded, WhereTold}
 use Rattle.split_states.specs.declared.rows.Row.{Row}
 use Rattle.index_world.proofs.Numbers.{revision_is}
 use Rattle.index_world.specs.Config.{reads}
@@ -123,3 +125,25 @@ fault_now before now (errors.Expired planned_at reached) f = tt
 fault_now before now errors.NoIndex f = tt
 fault_now before now errors.IndexExists f = tt
 fault_now before now (errors.BadConfig bad) f = tt
+
+-- ---- of a world whose rows were listed
+
+pub found_checks : (a a' b : Option State) (state : meta.State) (config : IndexConfig) (schema : Schema) (files : List RowFile) (revision : ℕ) (answer : Result Whole WorldError) → a' ≡ a → index_of state.config ≡ Some config →
+    schema ≡ config.schema → files ≡ map row_file (every state.rows) → revision ≡ state.revision → WhereTold a' b (JudgesFiles schema files answer) → IfOk answer (λ whole. whole ≡ whole_of revision files) →
+    WhereTold a b (ChecksWorld state answer)
+found_checks a a' b state config schema files revision answer same said schema_is files_are revision_is h whole =
+    let all = map row_file (every state.rows) in
+    let w = subst (λ (n : ℕ). IfOk answer (λ whole. whole ≡ whole_of n all)) revision_is (subst (λ (l : List RowFile). IfOk answer (λ whole. whole ≡ whole_of revision l)) files_are whole) in
+    told_map a b (λ o n j. (config, said, subst (λ (s : Schema). JudgesFiles s all answer o n) schema_is (subst (λ (l : List RowFile). JudgesFiles schema l answer o n) files_are j), w))
+    (subst (λ (x : Option State). WhereTold x b (JudgesFiles schema files answer)) same h)
+
+pub found_none : (a a' : Option State) (state : meta.State) (config : IndexConfig) (e : AllocError) → a' ≡ a → index_of state.config ≡ Some config → WhereTold a a' (ChecksWorld state (Err (errors.Memory e)))
+found_none a a' state config e same said = subst (λ (x : Option State). WhereTold a x (ChecksWorld state (Err (errors.Memory e)))) (sym same) (by a)
+  where
+    by : (x : Option State) → WhereTold x x (ChecksWorld state (Err (errors.Memory e)))
+    by None = tt
+    by (Some o) = (config, said, (HasLanded-refl o, tt), tt)
+
+pub faults_now : (before now : ℕ) (r : Result Whole WorldError) → IfErr r (IsFaultBetween before now) → IfErr r (IsFaultNow now)
+faults_now before now (Ok whole) h = h
+faults_now before now (Err error) h = fault_now before now error h

@@ -144,8 +144,8 @@ pub judged_more : (s : Schema) (front files : List RowFile) (u v : ⊤) (o m n :
 judged_more s front files u v o m n f g = (HasLanded-trans o m n f.0 g.0, all_append (HasWholeFile s n) front files (all_later s front m n g.0 f.1) g.1)
 
 -- one file more fails
-pub judged_fails : {A : Type 0} (s : Schema) (front files more : List RowFile) (error : WorldError) (u : ⊤) (o m n : State) → JudgesFiles {A = ⊤} s front (Ok u) o m → JudgesFiles {A = ⊤} s files (Err error) m n →
-    JudgesFiles {A = A} s ((front ++ files) ++ more) (Err error) o n
+pub judged_fails : (s : Schema) (front files more : List RowFile) (error : WorldError) (u : ⊤) (o m n : State) → JudgesFiles {A = ⊤} s front (Ok u) o m → JudgesFiles {A = ⊤} s files (Err error) m n →
+    JudgesFiles {A = ⊤} s ((front ++ files) ++ more) (Err error) o n
 judged_fails s front files more error u o m n f g = (HasLanded-trans o m n f.0 g.0, fail_among s front files more error n (all_later s front m n g.0 f.1) g.1)
 
 pub judged_none : (s : Schema) (o : State) → JudgesFiles {A = ⊤} s [] (Ok tt) o o
@@ -158,7 +158,7 @@ pub files_fail : (a m b : Option State) (s : Schema) (front files more all : Lis
 files_fail a m b s front files more all error (Ok u) e h f g = absurd h
 files_fail a m b s front files more all error (Err x) e h f g =
     told_then a m b (λ o mid n p q. subst (λ (l : List RowFile). JudgesFiles {A = ⊤} s l (Err x) o n) e (subst (λ (y : WorldError). JudgesFiles {A = ⊤} s ((front ++ files) ++ more) (Err y) o n) (sym h)
-    (judged_fails {A = ⊤} s front files more error tt o mid n p q))) f g
+    (judged_fails s front files more error tt o mid n p q))) f g
 
 pub files_more : (a m b : Option State) (s : Schema) (front files all : List RowFile) (u : ⊤) → front ++ files ≡ all →
     WhereTold a m (JudgesFiles {A = ⊤} s front (Ok tt)) → WhereTold m b (JudgesFiles {A = ⊤} s files (Ok u)) → WhereTold a b (JudgesFiles {A = ⊤} s all (Ok tt))

@@ -77,10 +77,10 @@ there_is (d ∷ documents) (suc n) lt = there_is documents n (omega (arith, lt))
 
 -- ---- answers
 
-pub where_ok : {A E : Type 0} {P Q : A → Type 0} → ((x : A) → P x → Q x) → (r : Result A E) → IfOk r P → IfOk r Q
-where_ok f (Ok x) h = f x h
-where_ok f (Err e) h = h
+pub where_ok : {A E : Type 0} (P Q : A → Type 0) → ((x : A) → P x → Q x) → (r : Result A E) → IfOk r P → IfOk r Q
+where_ok P Q f (Ok x) h = f x h
+where_ok P Q f (Err e) h = h
 
-pub both_ok : {A E : Type 0} {P Q : A → Type 0} (r : Result A E) → IfOk r P → IfOk r Q → IfOk r (λ x. P x × Q x)
-both_ok (Ok x) p q = (p, q)
-both_ok (Err e) p q = tt
+pub both_ok : {A E : Type 0} (P Q : A → Type 0) (r : Result A E) → IfOk r P → IfOk r Q → IfOk r (λ x. P x × Q x)
+both_ok P Q (Ok x) p q = (p, q)
+both_ok P Q (Err e) p q = tt

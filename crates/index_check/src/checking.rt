@@ -79,10 +79,28 @@ fn check_world<S: ObjectStore>(alloc: Global, world: World<S, ScriptClock>) -> C
     let found = published_in(alloc, &world);
     let (store, clock) = world.unload();
     mem::drop(clock);
+    match found {
+        Ok(found) => check_store(alloc, store, &found, before),
+        Err(refused) => Checked {
+            answer: Err(WorldError::Memory(refused)),
+            store,
+        },
+    }
+}
+
+// The files of published rows of this store are whole.
+fn check_store<S: ObjectStore>(
+    alloc: Global,
+    store: S,
+    found: &Published,
+    before: u64,
+) -> Checked<S>
+    requires { ∥ IsSchema found.now.schema ∥₁ }
+    ensures faults { before ≤ S.fault_count store → IfErr result.answer (IsFaultBetween before (S.fault_count result.store)) }
+    ensures found { WhereTold (S.told store) (S.told result.store) (JudgesFiles found.now.schema found.now.files.items result.answer) }
+    ensures whole { IfOk result.answer (λ whole. whole ≡ whole_of found.now.revision found.now.files.items) }
+{
     let mut store = store;
-    let answer = match found {
-        Ok(found) => check_published(alloc, &mut store, &found, before),
-        Err(refused) => Err(WorldError::Memory(refused)),
-    };
+    let answer = check_published(alloc, &mut store, found, before);
     Checked { answer, store }
 }

@@ -22,8 +22,11 @@ returns-in-Ok-clause-next c = λ documents p view t.
     let there : slice_get documents n ≡ Some c.in-Ok.placed = at.1 ∙ ap Some (sym same) in
     let more = front_more documents n c.in-Ok.placed there in
     let light : total_weight (take n documents ++ c.in-Ok.placed ∷ []) ≤ max_weight = (let whole = front_light documents (n + 1) in let most = view.is_split.are_documents.light in let e = ap total_weight more in omega (arith, whole, most, e)) in
-    where_ok (λ done h. (h.0, subst (λ (ds : List Placed). HasTaken c.add.new.builder s ds) (sym more) (h.1 h.0))) c.add.result
-    (both_ok c.add.result (c.add.ensures.light s (take n documents) t c.in-Ok.ensures.of_schema light) (c.add.ensures.added s (take n documents) t c.in-Ok.ensures.of_schema))
+    let placed = c.in-Ok.placed in
+    let P : Bool → Type 0 = λ done. IsTrue done → HasTaken c.add.new.builder s (take n documents ++ placed ∷ []) in
+    let Q : Bool → Type 0 = λ done. IsTrue done × HasTaken c.add.new.builder s (take (n + 1) documents) in
+    let both = both_ok IsTrue P c.add.result (c.add.ensures.light s (take n documents) t c.in-Ok.ensures.of_schema light) (c.add.ensures.added s (take n documents) t c.in-Ok.ensures.of_schema) in
+    where_ok (λ done. IsTrue done × P done) Q (λ done h. (h.0, subst (λ (ds : List Placed). HasTaken c.add.new.builder s ds) (sym more) (h.1 h.0))) c.add.result both
 
 pub returns-in-Err-clause-next : goal.returns-in-Err-clause-next
 returns-in-Err-clause-next c = λ documents p view t.
