@@ -1,2 +1,3 @@
 pub mod WholeFile
 pub mod WholeIndex
+pub mod Printed

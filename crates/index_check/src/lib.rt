@@ -5,7 +5,9 @@ mod checking;
 mod comparing;
 mod files;
 mod listing;
+mod printing;
 mod walking;
 
 pub use checking::{Checked, Whole, check};
 pub use files::is_whole;
+pub use printing::print_whole;
