@@ -19,7 +19,7 @@ enum Found {
     Otherwise,
 }
 
-fn found(alloc: Global, store: FailingStore) -> (Found, FailingStore) {
+fn judged(alloc: Global, store: FailingStore) -> (Found, FailingStore) {
     let Checked { answer, store } = check(alloc, store);
     let found = match answer {
         Ok(whole) => Found::Whole(whole),
@@ -76,9 +76,9 @@ fn is_named(alloc: Global, store: FailingStore, key: &Key) -> Result<(bool, Fail
     let other = changed(alloc, held.as_slice())?;
     remove(alloc, &mut store, key)?;
     put(alloc, &mut store, key, other.as_slice())?;
-    let (behind_change, mut store) = found(alloc, store);
+    let (behind_change, mut store) = judged(alloc, store);
     remove(alloc, &mut store, key)?;
-    let (behind_loss, mut store) = found(alloc, store);
+    let (behind_loss, mut store) = judged(alloc, store);
     put(alloc, &mut store, key, held.as_slice())?;
     match (behind_change, behind_loss) {
         (Found::Whole(_), Found::Whole(_)) => Ok((false, store)),
@@ -96,7 +96,7 @@ pub fn judge_files(
     entries: u64,
     documents: u64,
 ) -> Result<(), Wrong> {
-    let (answer, store) = found(alloc, store);
+    let (answer, store) = judged(alloc, store);
     let Found::Whole(whole) = answer else {
         return Err(Wrong::seen(alloc, "the index", "is not whole"));
     };
