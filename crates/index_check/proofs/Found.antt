@@ -104,10 +104,13 @@ opens_checks world answer old mid now o c = by answer c.2 c.3
   where
     configured : configuration o.entries ≡ Some c.0
     configured = ap (λ (s : meta.State). index_of s.config) (sym o.meta) ∙ c.1
+
     behind : HasLanded mid now → Behind o.entries c.0 world.meta old now
     behind landed = record { state = o.meta; journal = journal_of o.entries c.0 old mid now o.finds landed configured }
+
     landed : HasLanded mid now → HasLanded old now
     landed l = HasLanded-trans old mid now (HasLanded-trans old o.finds.mid mid o.finds.before o.finds.behind) l
+
     by : (r : Result Whole WorldError) → JudgesFiles c.0.schema (map row_file (every world.meta.rows)) r mid now → IfOk r (λ whole. whole ≡ whole_of world.meta.revision (map row_file (every world.meta.rows))) → Checks r old now
     by (Ok whole) j w = all_whole o.entries c.0 world.meta whole old now (behind j.0) j.1 w
     by (Err error) j w = none_whole o.entries c.0 world.meta error old mid now (behind j.0) (landed j.0) j.1

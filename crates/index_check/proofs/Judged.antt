@@ -46,8 +46,10 @@ got s row key piece result is judged o n h =
   where
     stands : (bytes : List ℕ) → get h.0.objects key ≡ Some bytes → get n.objects (split_key row.number) ≡ Some bytes
     stands bytes e = subst (λ (k : List ℕ). get n.objects k ≡ Some bytes) is (ap (λ (st : State). get st.objects key) h.2.0 ∙ e)
+
     landed : HasLanded o n
     landed = subst (λ (st : State). HasLanded o st) (sym h.2.0) h.1
+
     so : (bytes : List ℕ) → get h.0.objects key ≡ Some bytes → IsPieceOf bytes 0 row.facts.size piece → (r : Result ⊤ WorldError) → JudgesUnder s row key piece r → JudgesFiles s (row ∷ []) r o n
     so bytes e p (Ok done) j = (landed, (record { bytes = bytes; stands = stands bytes e; whole = j bytes p }, tt))
     so bytes e p (Err (errors.Corrupt k)) j =
@@ -62,6 +64,7 @@ got s row key piece result is judged o n h =
     so bytes e p (Err (errors.Expired planned_at reached)) j = absurd j
     so bytes e p (Err errors.IndexExists) j = absurd j
     so bytes e p (Err (errors.BadConfig bad)) j = absurd j
+
     by : (found : Option (List ℕ)) → get h.0.objects key ≡ found → Finds (get h.0.objects key) 0 row.facts.size (Ok piece) → JudgesFiles s (row ∷ []) result o n
     by None e f = absurd (subst (λ (x : Option (List ℕ)). Finds x 0 row.facts.size (Ok piece)) e f)
     by (Some bytes) e f = so bytes e (subst (λ (x : Option (List ℕ)). Finds x 0 row.facts.size (Ok piece)) e f) result judged
@@ -69,19 +72,18 @@ got s row key piece result is judged o n h =
 -- nothing stood there
 pub absent : (s : Schema) (row : RowFile) (key : List ℕ) → key ≡ split_key row.number →
     (o n : State) → LandsThen (Gets key 0 row.facts.size (Err gets.Absent)) o n → JudgesFiles {A = ⊤} s (row ∷ []) (Err (errors.Missing key)) o n
-absent s row key is o n h =
-    (
-      subst (λ (st : State). HasLanded o st) (sym h.2.0) h.1,
-      record {
-        front = [];
-        row = row;
-        behind = [];
-        files_are = refl;
-        before = tt;
-        key_is = is;
-        fails = subst (λ (k : List ℕ). get n.objects k ≡ None) is (ap (λ (st : State). get st.objects key) h.2.0 ∙ none (get h.0.objects key) h.2.1);
-      },
-    )
+absent s row key is o n h = (
+  subst (λ (st : State). HasLanded o st) (sym h.2.0) h.1,
+  record {
+    front = [];
+    row = row;
+    behind = [];
+    files_are = refl;
+    before = tt;
+    key_is = is;
+    fails = subst (λ (k : List ℕ). get n.objects k ≡ None) is (ap (λ (st : State). get st.objects key) h.2.0 ∙ none (get h.0.objects key) h.2.1);
+  },
+)
   where
     none : (found : Option (List ℕ)) → Finds found 0 row.facts.size (Err gets.Absent) → found ≡ None
     none None f = f

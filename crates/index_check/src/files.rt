@@ -101,11 +101,7 @@ fn gathered(
 }
 
 // The split that is built of the documents in a file, or none where it holds other things or too many.
-fn rebuilt(
-    alloc: Global,
-    schema: &Schema,
-    bytes: &[u8],
-) -> Result<Option<BuiltSplit>, AllocError>
+fn rebuilt(alloc: Global, schema: &Schema, bytes: &[u8]) -> Result<Option<BuiltSplit>, AllocError>
     requires { ∥ IsSchema schema.now ∥₁ }
     ensures built { IfOk result (λ found. IfSome found (λ split. (documents : List Document) × IsBuilt schema.now documents split)) }
     // Of a split of documents: the one that is built of them.

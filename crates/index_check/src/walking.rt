@@ -15,12 +15,7 @@ use object_store::{GetError, Key, ObjectStore, Piece};
 use std::alloc::{AllocError, Global};
 
 // Whether a piece is a row's file, and that is whole.
-fn is_file(
-    alloc: Global,
-    schema: &Schema,
-    row: &RowFile,
-    piece: &Piece,
-) -> Result<bool, AllocError>
+fn is_file(alloc: Global, schema: &Schema, row: &RowFile, piece: &Piece) -> Result<bool, AllocError>
     requires { ∥ IsSchema schema.now ∥₁ }
     ensures { JudgesPiece schema.now row.now.facts piece.now result }
 {

@@ -20,5 +20,5 @@ loop-row-preserved g c =
     record {
       later = (let low = c.loop-row.invariant.later in let high = c.check_file.ensures.later in omega (arith, low, high));
       found = files_more (t.told c.args.store.now) (t.told c.loop-row.store) (t.told c.check_file.new.store) c.args.schema.now (take i rows) (row ∷ []) (take (i + 1) rows) c.in_ok-check_file.field-0
-      (one_more rows i row c.loop-row-test.true c.row-item.is) c.loop-row.invariant.found c.in_ok-check_file.ensures.found;
+          (one_more rows i row c.loop-row-test.true c.row-item.is) c.loop-row.invariant.found c.in_ok-check_file.ensures.found;
     }
