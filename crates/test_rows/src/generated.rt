@@ -10,7 +10,10 @@ fn the_first_record_of_seven(rt: HostRuntime) -> Result<(), Fail> {
     assert!(rt; log.partitions(alloc)?.len() == 4);
     let records = log.read(alloc, &Partition::from_text("p0")?, 0, 10)?;
     assert!(rt; records.list.len() == 2 && records.end);
-    assert!(rt; records.list.at(0).as_slice() == b"{\"ts\":\"2023-11-14T22:13:20Z\",\"level\":\"error\",\"body\":\"theta beta\",\"status\":541}".as_slice());
+    assert!(rt;
+        records.list.at(0).as_slice()
+            == b"{\"ts\":\"2023-11-14T22:13:20Z\",\"level\":\"error\",\"body\":\"theta beta\",\"status\":541}".as_slice()
+    );
     Ok(())
 }
 
