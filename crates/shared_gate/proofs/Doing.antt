@@ -21,7 +21,7 @@ use Rattle.index_world.specs.declared.world_error.WorldError.{WorldError}
 use Rattle.index_world.specs.declared.world_error.WorldError.TheVariants as errors
 use Rattle.index_world.proofs.Gates.{clocked}
 use Rattle.shared_gate.specs.Recording.{Acting, ActingWith, Answering, Entered, IsNewNumber, IsPageOf, RanBy, Records, TellsOn, Unheard, Untouched, WasStagedBy, base_of, clocked_at, last_world, set_to}
-use Rattle.shared_gate.specs.Sharing.{IsUnheard, Passes, Seat, SeatAdds, SeatAnswers, SeatBegins, SeatOwns, SeatSince, SeatStands, last_core, seat_told, world_of}
+use Rattle.shared_gate.specs.Sharing.{IsUnheard, Passes, Seat, SeatAdds, SeatAnswers, SeatBegins, SeatOwns, SeatSince, SeatStands, TaskDid, last_core, seat_told, world_of}
 use Rattle.shared_gate.specs.declared.recorded.Recorded.{Recorded}
 use Rattle.shared_gate.specs.declared.recorded.Event.{Event}
 use Rattle.shared_gate.proofs.Lives.{tells_on}
@@ -172,6 +172,7 @@ module _ {Lock S K L : Type 0} (told : L → Option Log) where
       left = t.left;
       home = λ home is. t.home ∙ back.home_stays home is;
       rises = t.rises;
+      places = (run_of (length lent.events.items) (length last.events.items - length lent.events.items), sym t.places);
     }
 
     pub world_is : last.world ≡ world_of new
@@ -245,9 +246,12 @@ module _ {Lock S K L : Type 0} (told : L → Option Log) where
 
     -- what it answered over any store that tells
     pub answered_by : {A : Type 0} {tells : K → Option ℕ} (ask : Ask) (staged one : Option ℕ) (listed : Option SweepPage) (Act : Keeping → Keeping → Type 0) (answered : Answered) (result : Result A WorldError)
-        → Records tells ask staged one listed (Answering answered Act) result old.home new_home lent last → (IsShort result → IsUnheard answered) → SeatAnswers old answered new
-    answered_by ask staged one listed Act answered result (inl u) unheard = inr (inl (unheard (subst (λ (x : Result _ WorldError). IsShort x) (sym u.is) tt)))
-    answered_by ask staged one listed Act answered result (inr x) unheard =
+        → Records tells ask staged one listed (Answering answered Act) result old.home new_home lent last → (IsShort result → IsUnheard answered) → ((mid after : Keeping) → Act mid after → TaskDid answered mid after) → SeatAnswers old answered new
+    answered_by ask staged one listed Act answered result (inl u) unheard did = inr (inl (unheard (subst (λ (x : Result _ WorldError). IsShort x) (sym u.is) tt)))
+    answered_by ask staged one listed Act answered result (inr x) unheard did =
+        let n : ℕ = length lent.events.items in
+        let long : length last.events.items ≡ n + 1 = ap length x.events ∙ length-append lent.events.items (x.event ∷ []) in
+        let more : length last.events.items - n ≡ 1 = omega (arith, long) in
         let first : lent.world ≡ last_world new.opened lent.events.items = l.standing.last ∙ ap (λ (k : Keeping). last_world k lent.events.items) (l.opened ∙ sym t.opened) in
         inl (record {
           before = lent.events.items;
@@ -257,6 +261,8 @@ module _ {Lock S K L : Type 0} (told : L → Option Log) where
           clock = x.clock;
           low = x.asked.low;
           answers = subst (λ (w : Keeping × Keeping). IsAnswer answered (set_to x.clock w.0) w.1) (λ i. (first i, world_is i)) x.acts.1;
+          own = t.places ∙ (λ i. old.places ++ run_of n (more i));
+          task = subst (λ (w : Keeping × Keeping). TaskDid answered (set_to x.clock w.0) w.1) (λ i. (first i, world_is i)) (did (set_to x.clock lent.world) last.world x.acts.0);
         })
 
     pub told_by : {A : Type 0} {tells : K → Option ℕ} (ask : Ask) (staged one : Option ℕ) (listed : Option SweepPage) (Act : Keeping → Keeping → Type 0) (answered : Answered) (result : Result A WorldError)

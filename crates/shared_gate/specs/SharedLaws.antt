@@ -80,7 +80,7 @@ module _ {Lock S L : Type 0} where
   }
 
   pub seat_since_same : (seat : Seat Lock S L) → SeatSince seat seat
-  seat_since_same seat = record { lock = refl; opened = refl; source = refl; config = refl; seen = prefix_self seat.seen; parts = refl; left = refl; home = λ home is. is; rises = λ r. r }
+  seat_since_same seat = record { lock = refl; opened = refl; source = refl; config = refl; seen = prefix_self seat.seen; parts = refl; left = refl; home = λ home is. is; rises = λ r. r; places = prefix_self seat.places }
 
   pub seat_since_more : (first mid last : Seat Lock S L) → SeatSince first mid → SeatSince mid last → SeatSince first last
   seat_since_more first mid last a b = record {
@@ -93,6 +93,7 @@ module _ {Lock S L : Type 0} where
     left = b.left ∙ a.left;
     home = λ home is. b.home home (a.home home is);
     rises = λ r. b.rises (a.rises r);
+    places = prefix_trans first.places mid.places last.places a.places b.places;
   }
 
   pub seat_since_owns : (first last : Seat Lock S L) (number : ℕ) → SeatSince first last → SeatOwns first number → SeatOwns last number

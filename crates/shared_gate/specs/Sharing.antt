@@ -1,5 +1,5 @@
 -- What one of many that share a world knows of it.
-use Rattle.std.specs.Prelude.{◌≡◌, ◌⊎◌, ◌<◌, ◌^◌, ℕ, List, [], ◌∷◌, ◌++◌, slice_get, Option, Some, Result, ⊤}
+use Rattle.std.specs.Prelude.{◌≡◌, ◌⊎◌, ◌<◌, ◌^◌, ℕ, List, [], ◌∷◌, ◌++◌, length, slice_get, Option, Some, None, Result, ⊤}
 use Rattle.std.specs.declared.alloc.AllocError.{AllocError}
 use mathlib.Core.List.{IsPrefix}
 use Rattle.index_config.specs.declared.config.IndexConfig.{IndexConfig}
@@ -15,8 +15,9 @@ use Rattle.index_world.specs.Answering.{Answered, IsAnswer, marks_answered, mome
 use Rattle.index_world.specs.Calls.{Fate}
 use Rattle.index_world.specs.CallsMade.{Ask, CallMade, IsShort, made_of}
 use Rattle.index_world.specs.Core.{Core, IsConfigured, Nobody}
+use Rattle.index_world.specs.Gate.{IsReceipt, IsUnmade, task_call}
 use Rattle.index_world.specs.World.{Keeping, WorldStands, GoesFor}
-use Rattle.shared_gate.specs.Recording.{Begun, IsCall, RanBy, WasStagedBy, clocked_at, last_world, set_to}
+use Rattle.shared_gate.specs.Recording.{Acting, Always, Begun, IsCall, RanBy, WasStagedBy, clocked_at, last_world, set_to}
 use Rattle.shared_gate.specs.declared.recorded.Event.{Event}
 use Rattle.shared_gate.specs.declared.recorded.Opening.{Opening}
 use Rattle.shared_gate.specs.declared.recorded.Recorded.{Recorded}
@@ -119,6 +120,11 @@ IsUnheard (list_answered behind result) = IsShort result
 IsUnheard (sweep_answered number result) = IsShort result
 IsUnheard (fetch_answered number planned_at from len result) = IsShort result
 
+-- what the adding of a task did between two worlds, to whatever core the one stood for; of another call nothing is said
+abbrev pub TaskDid : Answered → Keeping → Keeping → Type 0
+TaskDid (task_answered ask result) old new = Acting Always None (task_call ask) IsUnmade (λ core. IsReceipt) result old new
+TaskDid other old new = ⊤
+
 -- ---- what a gate's words are for one of many
 
 module _ {Lock S L : Type 0} where
@@ -151,6 +157,7 @@ module _ {Lock S L : Type 0} where
     pub left : new.left ≡ old.left
     pub home : (home : ℕ) → old.home ≡ Some home → new.home ≡ Some home
     pub rises : Rises old.places → Rises new.places
+    pub places : IsPrefix old.places new.places
 
   -- and these calls are its own, at the places that came to it
   pub record SeatAdds (old : Seat Lock S L) (made : List CallMade) (new : Seat Lock S L) : Type 0 where
@@ -160,7 +167,7 @@ module _ {Lock S L : Type 0} where
     pub calls : AtPlaces new.seen more made
 
   -- At its turn the call answered so: over the world that the events before it left, which begin with all that was seen, with the clock
-  -- set. It left the one behind all that was seen.
+  -- set. It left the one behind all that was seen, and its place, behind those events, is its caller's own.
   pub record AtTurn (old : Seat Lock S L) (answered : Answered) (new : Seat Lock S L) : Type 0 where
     pub before : List (Event S)
     pub event : Event S
@@ -169,6 +176,8 @@ module _ {Lock S L : Type 0} where
     pub clock : ℕ
     pub low : clock < 2 ^ 62
     pub answers : IsAnswer answered (set_to clock (last_world new.opened before)) (world_of new)
+    pub own : new.places ≡ old.places ++ length before ∷ []
+    pub task : TaskDid answered (set_to clock (last_world new.opened before)) (world_of new)
 
   -- A call for tasks answered so at its turn, over the world behind all that is seen then, and left it as it was.
   pub record LookedAt (answered : Answered) (new : Seat Lock S L) : Type 0 where

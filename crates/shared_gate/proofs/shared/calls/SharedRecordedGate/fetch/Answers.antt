@@ -62,7 +62,7 @@ returns-clause-answered g c row found =
     let l = lent_by told w.lock.now w.pass w.config.now w.home t.result.value t.ensures.lent.0 t.ensures.lent.1 t.ensures.seen.0 t.ensures.apart w.homed in
     let b = back_fetch told c.args.plan.now row.number c.args.from c.args.len (fetch_answered row.number c.args.plan.now.moment c.args.from c.args.len e.result) e.result (seat_of w.lock.now w.pass w.config.now w.home) e.new.home t.result.value e.new.self l (e.ensures row found) in
     let k = took_by told w.lock.now w.pass t.new.pass c.done.new.pass w.config.now w.home e.new.home t.result.value e.new.self t.ensures.seen.1 t.ensures.same c.done.ensures.seen c.done.ensures.places c.done.ensures.rises c.done.ensures.same in
-    answered_by told (seat_of w.lock.now w.pass w.config.now w.home) (seat_of w.lock.now c.done.new.pass w.config.now e.new.home) e.new.home t.result.value e.new.self l b k (of_fetch row.number c.args.from c.args.len) None None None (FetchActs c.args.plan.now row.number c.args.from c.args.len e.result) (fetch_answered row.number c.args.plan.now.moment c.args.from c.args.len e.result) e.result (e.ensures row found) (λ short. short)
+    answered_by told (seat_of w.lock.now w.pass w.config.now w.home) (seat_of w.lock.now c.done.new.pass w.config.now e.new.home) e.new.home t.result.value e.new.self l b k (of_fetch row.number c.args.from c.args.len) None None None (FetchActs c.args.plan.now row.number c.args.from c.args.len e.result) (fetch_answered row.number c.args.plan.now.moment c.args.from c.args.len e.result) e.result (e.ensures row found) (λ short. short) (λ mid after acts. tt)
 
 pub returns-clause-answers : goal.returns-clause-answers
 returns-clause-answers g c row found =

@@ -56,7 +56,7 @@ returns-clause-answered g c =
     let l = lent_by told w.lock.now w.pass w.config.now w.home t.result.value t.ensures.lent.0 t.ensures.lent.1 t.ensures.seen.0 t.ensures.apart w.homed in
     let b = plain_back told (seat_of w.lock.now w.pass w.config.now w.home) e.new.home t.result.value e.new.self of_moment asked IsTrouble (λ core. IsMoment) (moment_answered e.result) e.result l e.ensures.records (λ fate core. refl) in
     let k = took_by told w.lock.now w.pass t.new.pass c.done.new.pass w.config.now w.home e.new.home t.result.value e.new.self t.ensures.seen.1 t.ensures.same c.done.ensures.seen c.done.ensures.places c.done.ensures.rises c.done.ensures.same in
-    answered_by told (seat_of w.lock.now w.pass w.config.now w.home) (seat_of w.lock.now c.done.new.pass w.config.now e.new.home) e.new.home t.result.value e.new.self l b k of_moment None None None (Acting Always None asked IsTrouble (λ core. IsMoment) e.result) (moment_answered e.result) e.result e.ensures.records (λ short. short)
+    answered_by told (seat_of w.lock.now w.pass w.config.now w.home) (seat_of w.lock.now c.done.new.pass w.config.now e.new.home) e.new.home t.result.value e.new.self l b k of_moment None None None (Acting Always None asked IsTrouble (λ core. IsMoment) e.result) (moment_answered e.result) e.result e.ensures.records (λ short. short) (λ mid after acts. tt)
 
 pub returns-clause-step : goal.returns-clause-step
 returns-clause-step g c core log s =

@@ -56,7 +56,7 @@ returns-clause-answered g c =
     let l = lent_by told w.lock.now w.pass w.config.now w.home t.result.value t.ensures.lent.0 t.ensures.lent.1 t.ensures.seen.0 t.ensures.apart w.homed in
     let b = back_given told (seat_of w.lock.now w.pass w.config.now w.home) e.new.home t.result.value e.new.self (of_publish c.args.uploaded.number) (publish_call c.args.uploaded.number) IsUnmade (λ core. IsRevision) (publishable c.args.uploaded.number) (publish_answered c.args.uploaded.number e.result) e.result l e.ensures (publishable_stays c.args.uploaded.number) c.requires.begun (λ fate core. refl) in
     let k = took_by told w.lock.now w.pass t.new.pass c.done.new.pass w.config.now w.home e.new.home t.result.value e.new.self t.ensures.seen.1 t.ensures.same c.done.ensures.seen c.done.ensures.places c.done.ensures.rises c.done.ensures.same in
-    answered_by told (seat_of w.lock.now w.pass w.config.now w.home) (seat_of w.lock.now c.done.new.pass w.config.now e.new.home) e.new.home t.result.value e.new.self l b k (of_publish c.args.uploaded.number) None None None (Acting (publishable c.args.uploaded.number) None (publish_call c.args.uploaded.number) IsUnmade (λ core. IsRevision) e.result) (publish_answered c.args.uploaded.number e.result) e.result e.ensures (λ short. short)
+    answered_by told (seat_of w.lock.now w.pass w.config.now w.home) (seat_of w.lock.now c.done.new.pass w.config.now e.new.home) e.new.home t.result.value e.new.self l b k (of_publish c.args.uploaded.number) None None None (Acting (publishable c.args.uploaded.number) None (publish_call c.args.uploaded.number) IsUnmade (λ core. IsRevision) e.result) (publish_answered c.args.uploaded.number e.result) e.result e.ensures (λ short. short) (λ mid after acts. tt)
 
 pub returns-clause-step : goal.returns-clause-step
 returns-clause-step g c core log s given =

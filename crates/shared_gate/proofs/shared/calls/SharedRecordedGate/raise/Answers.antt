@@ -61,7 +61,7 @@ returns-clause-answered g c row found =
     let l = lent_by told w.lock.now w.pass w.config.now w.home t.result.value t.ensures.lent.0 t.ensures.lent.1 t.ensures.seen.0 t.ensures.apart w.homed in
     let b = back_given told (seat_of w.lock.now w.pass w.config.now w.home) e.new.home t.result.value e.new.self (of_raise row.number c.args.upto) (raise_call row.number c.args.upto) IsUnmade (λ core. IsRevision) (raisable row.number c.args.upto) (raise_answered row.number c.args.upto e.result) e.result l (e.ensures row found) (raisable_stays row.number c.args.upto) (λ log b. c.requires.begun log row b found) (λ fate core. refl) in
     let k = took_by told w.lock.now w.pass t.new.pass c.done.new.pass w.config.now w.home e.new.home t.result.value e.new.self t.ensures.seen.1 t.ensures.same c.done.ensures.seen c.done.ensures.places c.done.ensures.rises c.done.ensures.same in
-    answered_by told (seat_of w.lock.now w.pass w.config.now w.home) (seat_of w.lock.now c.done.new.pass w.config.now e.new.home) e.new.home t.result.value e.new.self l b k (of_raise row.number c.args.upto) None None None (Acting (raisable row.number c.args.upto) None (raise_call row.number c.args.upto) IsUnmade (λ core. IsRevision) e.result) (raise_answered row.number c.args.upto e.result) e.result (e.ensures row found) (λ short. short)
+    answered_by told (seat_of w.lock.now w.pass w.config.now w.home) (seat_of w.lock.now c.done.new.pass w.config.now e.new.home) e.new.home t.result.value e.new.self l b k (of_raise row.number c.args.upto) None None None (Acting (raisable row.number c.args.upto) None (raise_call row.number c.args.upto) IsUnmade (λ core. IsRevision) e.result) (raise_answered row.number c.args.upto e.result) e.result (e.ensures row found) (λ short. short) (λ mid after acts. tt)
 
 pub returns-clause-step : goal.returns-clause-step
 returns-clause-step g c core log row s found given =

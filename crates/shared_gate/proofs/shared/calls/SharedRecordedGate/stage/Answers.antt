@@ -56,7 +56,7 @@ returns-clause-answered g c =
     let l = lent_by told w.lock.now w.pass w.config.now w.home t.result.value t.ensures.lent.0 t.ensures.lent.1 t.ensures.seen.0 t.ensures.apart w.homed in
     let b = back_stage told (seat_of w.lock.now w.pass w.config.now w.home) e.new.home t.result.value e.new.self c.args.delta.now c.args.facts.now (stage_answered c.args.delta.now c.args.facts.now e.result) e.result l e.ensures in
     let k = took_by told w.lock.now w.pass t.new.pass c.done.new.pass w.config.now w.home e.new.home t.result.value e.new.self t.ensures.seen.1 t.ensures.same c.done.ensures.seen c.done.ensures.places c.done.ensures.rises c.done.ensures.same in
-    answered_by told (seat_of w.lock.now w.pass w.config.now w.home) (seat_of w.lock.now c.done.new.pass w.config.now e.new.home) e.new.home t.result.value e.new.self l b k (of_stage c.args.delta.now c.args.facts.now) (number_given e.result) None None (Acting Always None (stage_call c.args.delta.now c.args.facts.now) IsUnmade (λ core. WasStaged core c.args.delta.now c.args.facts.now) e.result) (stage_answered c.args.delta.now c.args.facts.now e.result) e.result e.ensures (λ short. short)
+    answered_by told (seat_of w.lock.now w.pass w.config.now w.home) (seat_of w.lock.now c.done.new.pass w.config.now e.new.home) e.new.home t.result.value e.new.self l b k (of_stage c.args.delta.now c.args.facts.now) (number_given e.result) None None (Acting Always None (stage_call c.args.delta.now c.args.facts.now) IsUnmade (λ core. WasStaged core c.args.delta.now c.args.facts.now) e.result) (stage_answered c.args.delta.now c.args.facts.now e.result) e.result e.ensures (λ short. short) (λ mid after acts. tt)
 
 pub returns-clause-owned : goal.returns-clause-owned
 returns-clause-owned g c =

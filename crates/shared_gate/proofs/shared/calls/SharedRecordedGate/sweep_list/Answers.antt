@@ -57,7 +57,7 @@ returns-clause-answered g c =
     let l = lent_by told w.lock.now w.pass w.config.now w.home t.result.value t.ensures.lent.0 t.ensures.lent.1 t.ensures.seen.0 t.ensures.apart w.homed in
     let b = back_list told (seat_of w.lock.now w.pass w.config.now w.home) e.new.home t.result.value e.new.self (option_copied c.args.behind) (list_answered (option_copied c.args.behind) e.result) e.result l e.ensures in
     let k = took_by told w.lock.now w.pass t.new.pass c.done.new.pass w.config.now w.home e.new.home t.result.value e.new.self t.ensures.seen.1 t.ensures.same c.done.ensures.seen c.done.ensures.places c.done.ensures.rises c.done.ensures.same in
-    answered_by told (seat_of w.lock.now w.pass w.config.now w.home) (seat_of w.lock.now c.done.new.pass w.config.now e.new.home) e.new.home t.result.value e.new.self l b k (of_sweep_list (option_copied c.args.behind)) None None (page_given e.result) (Acting Always None list_call IsTrouble (λ core. (IsSweepPage (option_copied c.args.behind))) e.result) (list_answered (option_copied c.args.behind) e.result) e.result e.ensures (λ short. short)
+    answered_by told (seat_of w.lock.now w.pass w.config.now w.home) (seat_of w.lock.now c.done.new.pass w.config.now e.new.home) e.new.home t.result.value e.new.self l b k (of_sweep_list (option_copied c.args.behind)) None None (page_given e.result) (Acting Always None list_call IsTrouble (λ core. (IsSweepPage (option_copied c.args.behind))) e.result) (list_answered (option_copied c.args.behind) e.result) e.result e.ensures (λ short. short) (λ mid after acts. tt)
 
 pub returns-clause-step : goal.returns-clause-step
 returns-clause-step g c core log s =

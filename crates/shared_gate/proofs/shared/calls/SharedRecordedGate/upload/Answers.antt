@@ -59,7 +59,7 @@ returns-clause-answered g c =
     let l = lent_by told w.lock.now w.pass w.config.now w.home t.result.value t.ensures.lent.0 t.ensures.lent.1 t.ensures.seen.0 t.ensures.apart w.homed in
     let b = back_upload told (seat_of w.lock.now w.pass w.config.now w.home) e.new.home t.result.value e.new.self c.args.staged.number (of_upload c.args.staged.number c.args.content.now) (λ fate core. upload_made fate c.args.staged.number c.args.content.now core) IsTrouble (λ core. (WasUploaded c.args.staged.number c.args.content.now)) (upload_answered c.args.staged.number c.args.content.now e.result) e.result l e.ensures c.requires.owned c.requires.begun (λ fate core. refl) in
     let k = took_by told w.lock.now w.pass t.new.pass c.done.new.pass w.config.now w.home e.new.home t.result.value e.new.self t.ensures.seen.1 t.ensures.same c.done.ensures.seen c.done.ensures.places c.done.ensures.rises c.done.ensures.same in
-    answered_by told (seat_of w.lock.now w.pass w.config.now w.home) (seat_of w.lock.now c.done.new.pass w.config.now e.new.home) e.new.home t.result.value e.new.self l b k (of_upload c.args.staged.number c.args.content.now) None (Some c.args.staged.number) None (Acting (λ log core. IsUnusedIn core c.args.staged.number) (Some c.args.staged.number) (λ fate core. upload_made fate c.args.staged.number c.args.content.now core) IsTrouble (λ core. (WasUploaded c.args.staged.number c.args.content.now)) e.result) (upload_answered c.args.staged.number c.args.content.now e.result) e.result e.ensures (λ short. short)
+    answered_by told (seat_of w.lock.now w.pass w.config.now w.home) (seat_of w.lock.now c.done.new.pass w.config.now e.new.home) e.new.home t.result.value e.new.self l b k (of_upload c.args.staged.number c.args.content.now) None (Some c.args.staged.number) None (Acting (λ log core. IsUnusedIn core c.args.staged.number) (Some c.args.staged.number) (λ fate core. upload_made fate c.args.staged.number c.args.content.now core) IsTrouble (λ core. (WasUploaded c.args.staged.number c.args.content.now)) e.result) (upload_answered c.args.staged.number c.args.content.now e.result) e.result e.ensures (λ short. short) (λ mid after acts. tt)
 
 pub returns-clause-answers : goal.returns-clause-answers
 returns-clause-answers g c =
