@@ -52,7 +52,12 @@ use Rattle.thread_run.specs.RunExit.{EndsAre, IsSettled, RunReached}
 use Rattle.thread_run.specs.Settled.{HasSettled, TellsSettled, WasSettled}
 use Rattle.thread_run.proofs.AllEnds.{AnsweredBy, InKinds, in_kinds}
 use Rattle.thread_run.proofs.RequestReplies.{requests_replied}
-use Rattle.thread_run.proofs.Says.{Says, all_say, end_core, end_goes, end_stands, sound_of}
+use Rattle.turn_lock.specs.Counts.{times, total}
+use Rattle.thread_run.specs.SearcherReplies.{AreApart, deleted_at, deleted_in}
+use Rattle.root_search.proofs.Rows.{world_legal}
+use Rattle.thread_run.proofs.Apart.{replies_within, runs_counted, served_counted}
+use Rattle.thread_run.proofs.Stamps.{apart_too}
+use Rattle.thread_run.proofs.Says.{Says, all_say, end_core, end_goes, end_stands, runs_apart, sound_of}
 
 length_take : {A : Type 0} (n : ℕ) (xs : List A) → n ≤ length xs → length (take n xs) ≡ n
 length_take zero [] le = refl
@@ -113,12 +118,29 @@ module _ {S K M L : Type 0} (tells : M → Option Log) (told : L → Option Log)
         subst (RepliesFrom (IsReplyTo config log exit.history (length core.history) core exit) [] requests) (sym (made.worked.replies_are e))
         (requests_replied config log exit.history (length core.history) core exit requests searchers made.plan served some made.planned whole.all_served whole.all_answered answered)
 
+    once : end.memory ≡ false → (revision : ℕ) → times revision (deleted_at end.replies.items) ≤ 1
+    once e revision =
+        let few = runs_apart tells told count since turns first made.worked.last (jobs_of made.begun made.plan.shares.items) made.worked.done made.worked.ran log core so stands config is_log configured texts
+        (subst (λ (k : Keeping). k.store_faults ≤ last_count) made.worked.world counted) exit on sound revision
+        (jobs_tell told count since log (length logs) 0 logs made.begun made.plan.shares.items made.are_begun tell) (jobs_counted told count since (length logs) 0 logs made.begun made.plan.shares.items made.are_begun) in
+        let within = replies_within revision made.plan.by.items searchers made.plan.clients made.worked.outcome.served.items in
+        let given = ap (λ (l : List Served). total (λ (one : Served). times revision (deleted_in one.answered.items)) l) made.worked.outcome_is.1 in
+        let of_served = served_counted revision made.worked.done in
+        let of_runs = runs_counted revision made.worked.ran.runs made.worked.done made.worked.ran.done_are in
+        let is = ap (λ (l : List Reply). times revision (deleted_at l)) (made.worked.replies_are e) in
+        omega (arith, few, within, given, of_served, of_runs, is)
+
+    pub run_apart : end.memory ≡ false → AreApart end.replies.items
+    run_apart e =
+        apart_too config log core exit (world_legal sound.kept exit log sound.world) requests end.replies.items (run_replies e) (once e)
+
 -- What a run did before it was settled, seen from where the index went on behind it.
 pub record RanTo {S L : Type 0} (count : L → ℕ) (options : RunOptions) (config : IndexConfig) (log : Log) (core : Core) (logs : List L) (requests : List Request) (end : RunEnd S L) : Type 0 where
   pub from : Core
   pub goes_on : GoesFor Nobody core from
   pub stands : WorldStands end.world from log
   pub replies : (exit : Core) → GoesFor Nobody from exit → IsSoundCore exit log → end.memory ≡ false → RepliesFrom (IsReplyTo config log exit.history (length core.history) core exit) [] requests end.replies.items
+  pub apart : (exit : Core) → GoesFor Nobody from exit → IsSoundCore exit log → end.memory ≡ false → AreApart end.replies.items
   pub ends : (exit : Core) → GoesFor Nobody from exit → IsSoundCore exit log → end.memory ≡ false →
       EndsAre config log exit.history (length core.history) core exit options.turns count options.indexers 0 (take options.indexers logs) end.logs.items end.ends.items
   pub whole : end.memory ≡ false → AllByRecursion (λ one. is_short_end one ≡ false) end.ends.items
@@ -145,6 +167,8 @@ module _ {S K L : Type 0} (told : L → Option Log) (count : L → ℕ) (since :
         stands = run_stands tells told count since options.searchers options.turns read unused requests has.first end has.made log core so begins;
         replies = λ exit on sound.
             run_replies tells told count since options.searchers options.turns read unused requests has.first end has.made log core so begins config is_log configured texts counted tell searchers exit (goes_before from exit on) sound;
+        apart = λ exit on sound.
+            run_apart tells told count since options.searchers options.turns read unused requests has.first end has.made log core so begins config is_log configured texts counted tell searchers exit (goes_before from exit on) sound;
         ends = λ exit on sound e. subst (λ n. EndsAre config log exit.history (length core.history) core exit options.turns count n 0 read end.logs.items end.ends.items) many
             (run_ends tells told count since options.searchers options.turns read unused requests has.first end has.made log core so begins config is_log configured texts counted tell searchers exit (goes_before from exit on) sound);
         whole = λ e. (has.made.worked.whole e).all_ended;
@@ -162,6 +186,7 @@ none_ran count options config world log core logs requests end none stands = rec
   goes_on = stays_as_is Nobody core;
   stands = subst (λ (k : Keeping). WorldStands k core log) (sym none.same) stands;
   replies = λ exit on sound e. absurd (true_false (sym none.memory ∙ e));
+  apart = λ exit on sound e. absurd (true_false (sym none.memory ∙ e));
   ends = λ exit on sound e. absurd (true_false (sym none.memory ∙ e));
   whole = λ e. absurd (true_false (sym none.memory ∙ e));
   settled = none.settled;
@@ -179,6 +204,7 @@ module _ {S L : Type 0} (count : L → ℕ) (options : RunOptions) (config : Ind
         goes_on = ran.goes_on;
         stands = ran.stands;
         replies = ran.replies ran.from here sound;
+        apart = ran.apart ran.from here sound;
         ends = ran.ends ran.from here sound;
         whole = ran.whole;
         settled = λ e. subst (λ (o : Option Settled). IsSettled options.settle o core ran.from) (sym ran.settled) (subst (λ (b : Bool). IsSettled b None core ran.from) (sym off) tt);
@@ -188,7 +214,7 @@ module _ {S L : Type 0} (count : L → ℕ) (options : RunOptions) (config : Ind
   short_did : end.memory ≡ true → RunReached count options config log core logs requests end
   short_did short =
       let no : end.memory ≡ false → ⊥ = λ e. true_false (sym short ∙ e) in
-      record { exit = ran.from; goes_on = ran.goes_on; stands = ran.stands; replies = λ e. absurd (no e); ends = λ e. absurd (no e); whole = λ e. absurd (no e); settled = λ e. absurd (no e) }
+      record { exit = ran.from; goes_on = ran.goes_on; stands = ran.stands; replies = λ e. absurd (no e); apart = λ e. absurd (no e); ends = λ e. absurd (no e); whole = λ e. absurd (no e); settled = λ e. absurd (no e) }
 
   told_as : (result : Result Settled AllocError) (told : Option Settled) (memory : Bool) (exit : Core) → TellsSettled result told memory → memory ≡ false → GoesFor Nobody ran.from exit → SettlesBy result ran.from exit → IsSettled true told core exit
   told_as (Ok settled) told memory exit t e on says = subst (λ (o : Option Settled). IsSettled true o core exit) (sym t.0) (record { from = ran.from; ran = ran.goes_on; goes_on = on; says = says })
@@ -204,6 +230,7 @@ module _ {S L : Type 0} (count : L → ℕ) (options : RunOptions) (config : Ind
         goes_on = goes_then core ran.from s.after ran.goes_on s.goes_on;
         stands = s.stands;
         replies = λ e. subst (λ (r : Vec Reply Global). RepliesFrom (IsReplyTo config log s.after.history (length core.history) core s.after) [] requests r.items) (sym was.replies) (ran.replies s.after s.goes_on sound whole);
+        apart = λ e. subst (λ (r : Vec Reply Global). AreApart r.items) (sym was.replies) (ran.apart s.after s.goes_on sound whole);
         ends = λ e. subst (λ (l : Vec L Global). EndsAre config log s.after.history (length core.history) core s.after options.turns count options.indexers 0 (take options.indexers logs) l.items last.ends.items) (sym was.logs)
             (subst (λ (es : Vec ActorEnd Global). EndsAre config log s.after.history (length core.history) core s.after options.turns count options.indexers 0 (take options.indexers logs) end.logs.items es.items) (sym was.ends)
             (ran.ends s.after s.goes_on sound whole));

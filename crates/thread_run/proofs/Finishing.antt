@@ -9,13 +9,15 @@ use Rattle.index_world.specs.Ran.{Ran}
 use Rattle.index_world.specs.World.{Keeping, WorldStands}
 use Rattle.index_world.proofs.Ran.{goes_then}
 use Rattle.shared_gate.specs.Recording.{Begun, IsLinked, last_world}
-use Rattle.shared_gate.specs.Sharing.{AtPlaces, Passes, Seat, SeatAdds, SeatSince, SeatStands, last_core}
+use Rattle.shared_gate.specs.Sharing.{AtPlaces, Passes, Seat, SeatAdds, SeatAnswers, SeatSince, SeatStands, last_core}
 use Rattle.shared_gate.specs.SharedLaws.{at_longer, life_goes, passes_go}
 use Rattle.shared_gate.specs.declared.recorded.Event.{Event}
 use Rattle.shared_gate.proofs.Lives.{follow, last_append, linked_rest}
+use Rattle.thread_run.specs.Added.{JobAdded, deleted_by}
 use Rattle.thread_run.specs.Jobs.{IsLater, JobDid}
 use Rattle.thread_run.specs.declared.job.Done.{Done}
 use Rattle.thread_run.specs.declared.job.Job.{Job}
+use Rattle.thread_run.proofs.AddedAt.{all_added_at}
 use Rattle.thread_run.proofs.Later.{job_later}
 use Rattle.thread_run.specs.Run.{JobAt, JobRan, JobRun, LeadOn}
 
@@ -58,10 +60,11 @@ module _ {Lock S M L : Type 0} (tells : M → Option Log) (told : L → Option L
         did = job_later told count Passes passes_go log turns core r.made r.after end goes job done r.did;
       }
 
-  pub job_ran : IsLater since job done → SeatSince old new → ((core : Core) (log : Log) → tells source ≡ Some log → WorldStands opened core log → Worked core log) →
+  pub job_ran : IsLater since job done → SeatSince old new → JobAdded SeatSince SeatAnswers old new done → ((core : Core) (log : Log) → tells source ≡ Some log → WorldStands opened core log → Worked core log) →
       JobRan tells told count turns events world since opened source this
-  job_ran logs later ran = record {
+  job_ran logs later added ran = record {
     logs = logs;
     rises = later.rises (subst Rises (sym none) tt);
+    added = all_added_at opened events old new opened_is begins (deleted_by done) added;
     at = λ core log so stands. job_at core log ((core, stands), so) (ran core log so stands);
   }

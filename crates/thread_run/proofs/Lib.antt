@@ -12,6 +12,12 @@ pub mod Ready
 pub mod LockClosing
 pub mod Loops
 pub mod Jobs
+pub mod TextSteps
+pub mod TextReplies
+pub mod Adding
+pub mod AddedAt
+pub mod Apart
+pub mod Stamps
 pub mod Ran
 pub mod Dealings
 pub mod Fronts

@@ -53,6 +53,7 @@ run_says count options log core logs requests end few r =
       stands = r.stands;
       said = λ whole. record {
         replies_are = r.replies whole;
+        apart = r.apart whole;
         ends_are = ends_from (config_or (configuration core.history)) log core r.exit count options.indexers options.turns options.indexers 0 logs end.logs.items end.ends.items few (r.ends whole);
         remembered = r.whole whole;
         settles = r.settled whole;

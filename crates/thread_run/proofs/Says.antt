@@ -1,5 +1,5 @@
 -- What came of all jobs of a run, by the journal at the exit.
-use Rattle.std.proofs.Common.{◌≡◌, ℕ, ◌≤◌, List, [], ◌∷◌, length, map, refl, sym, ap, ◌∙◌, subst, arith}
+use Rattle.std.proofs.Common.{◌≡◌, ◌⊎◌, inl, inr, ℕ, ◌<◌, ◌≤◌, List, [], ◌∷◌, length, map, refl, sym, ap, ◌∙◌, subst, arith}
 use Rattle.std.specs.List.{AllByRecursion, AllZip}
 use Rattle.std.specs.Prelude.{Option, Some}
 use Rattle.byte_fields.specs.Causes.{last_count}
@@ -16,12 +16,16 @@ use Rattle.shared_gate.specs.SharedLaws.{life_goes}
 use Rattle.shared_gate.specs.declared.recorded.Event.{Event}
 use Rattle.shared_gate.specs.declared.recorded.Recorded.{Recorded}
 use Rattle.shared_gate.proofs.Lives.{Followed, follow}
+use Rattle.turn_lock.specs.Counts.{below, times, total}
+use Rattle.turn_lock.proofs.Counting.{below_is}
+use Rattle.thread_run.specs.Added.{IsAddedAt, deleted_by}
 use Rattle.thread_run.specs.Jobs.{Tells}
 use Rattle.thread_run.specs.declared.job.Done.{Done}
 use Rattle.thread_run.specs.declared.job.Job.{Job}
 use Rattle.thread_run.specs.Run.{IsRun, JobRan, JobRun}
 use Rattle.thread_run.specs.JobSays.{IsCounted, JobSays}
 use Rattle.thread_run.specs.Meanwhile.{IsBefore}
+use Rattle.thread_run.proofs.Apart.{jobs_apart, told_once}
 use Rattle.thread_run.proofs.Called.{alike_before, are_called}
 use Rattle.thread_run.proofs.JobSays.{job_says}
 
@@ -85,3 +89,30 @@ module _ {S K M L : Type 0} (tells : M → Option Log) (told : L → Option Log)
         subst (λ (js : List (Job L)). AllZip (Says count config log core exit turns) js done) (sym ran.jobs_are)
         (subst (λ (ds : List (Done L)). AllZip (Says count config log core exit turns) (map (λ (run : JobRun L). run.job) ran.runs) ds) (sym ran.done_are)
         (runs_say ran.runs (subst (λ (js : List (Job L)). AllByRecursion (Tells told log) js) ran.jobs_are tell) (subst (λ (js : List (Job L)). AllByRecursion (IsCounted count) js) ran.jobs_are within) ran.each))
+
+    -- no job tells of a delete twice
+    runs_once : (revision : ℕ) (runs : List (JobRun L)) → AllByRecursion (Tells told log) (map (λ (run : JobRun L). run.job) runs) → AllByRecursion (IsCounted count) (map (λ (run : JobRun L). run.job) runs) →
+        AllByRecursion (JobRan tells told count turns last.events.items last.world since first.opened.value first.source.value) runs → AllByRecursion (λ (run : JobRun L). times revision (deleted_by run.done) ≤ 1) runs
+    runs_once revision [] tell within each = tt
+    runs_once revision (run ∷ runs) tell within each =
+        let says = run_says run tell.0 within.0 each.0 in
+        (told_once count config log core exit turns says.0 revision run.job run.done says.1, runs_once revision runs tell.1 within.1 each.1)
+
+    runs_add : (runs : List (JobRun L)) → AllByRecursion (JobRan tells told count turns last.events.items last.world since first.opened.value first.source.value) runs →
+        AllByRecursion (λ (run : JobRun L). AllByRecursion (IsAddedAt first.opened.value last.events.items run.places) (deleted_by run.done)) runs
+    runs_add [] each = tt
+    runs_add (run ∷ runs) each = (each.0.added, runs_add runs each.1)
+
+    -- and no two of them of the same
+    pub runs_apart : (revision : ℕ) → AllByRecursion (Tells told log) jobs → AllByRecursion (IsCounted count) jobs → total (λ (run : JobRun L). times revision (deleted_by run.done)) ran.runs ≤ 1
+    runs_apart revision tell within =
+        jobs_apart (Begun tells first.opened.value first.source.value) log starts first.opened.value last.events.items linked core stands revision ran.runs (runs_add ran.runs ran.each)
+        (runs_once revision ran.runs (subst (λ (js : List (Job L)). AllByRecursion (Tells told log) js) ran.jobs_are tell) (subst (λ (js : List (Job L)). AllByRecursion (IsCounted count) js) ran.jobs_are within) ran.each)
+        (λ place. let one = ran.once place in few place one)
+      where
+        few : (place : ℕ) → total (λ (run : JobRun L). times place run.places) ran.runs ≡ below place (length last.events.items) → total (λ (run : JobRun L). times place run.places) ran.runs ≤ 1
+        few place one = by (below_is place (length last.events.items))
+          where
+            by : ((place < length last.events.items) × (below place (length last.events.items) ≡ 1)) ⊎ ((length last.events.items ≤ place) × (below place (length last.events.items) ≡ 0)) → total (λ (run : JobRun L). times place run.places) ran.runs ≤ 1
+            by (inl yes) = let is = yes.1 in omega (arith, one, is)
+            by (inr no) = let is = no.1 in omega (arith, one, is)

@@ -106,7 +106,7 @@ module _ {A Lock S M L : Type 0} (tells : M → Option Log) (told : L → Option
   one_ran job old new done hired w tell begins =
       let is : job ≡ w.job = same_job job w.job (sym hired.0 ∙ w.todo) in
       job_ran tells told count since turns opened source events world linked last (seat old) (seat new) (w.later.opened ∙ (ap (λ (s : Seat Lock S M). s.opened) hired.1 ∙ opened_is))
-      (ap (λ (s : Seat Lock S M). s.places) hired.1 ∙ none) begins w.job w.done w.logs w.later
+      (ap (λ (s : Seat Lock S M). s.places) hired.1 ∙ none) begins w.job w.done w.logs w.later w.added
       (λ core log so stands.
       let t = tell log so in
       w.ran core log t.0 (subst (λ (j : Job L). Tells told log j) is t.1) (subst (λ (s : Seat Lock S M). SeatStands tells s core log) (sym hired.1) (begun core log so stands)))

@@ -2,6 +2,7 @@ pub mod Alone
 pub mod Sources
 pub mod Clients
 pub mod Jobs
+pub mod Added
 pub mod Working
 pub mod Run
 pub mod Gathering

@@ -10,6 +10,7 @@ use Rattle.shared_gate.specs.Recording.{Begun, IsStanding, Led}
 use Rattle.shared_gate.specs.Sharing.{AtPlaces, Passes}
 use Rattle.shared_gate.specs.declared.recorded.Event.{Event}
 use Rattle.shared_gate.specs.declared.recorded.Recorded.{Recorded}
+use Rattle.thread_run.specs.Added.{IsAddedAt, deleted_by}
 use Rattle.thread_run.specs.Jobs.{IsLater, JobDid}
 use Rattle.thread_run.specs.declared.job.Done.{Done}
 use Rattle.thread_run.specs.declared.job.Job.{Job}
@@ -42,11 +43,12 @@ module _ {S M L : Type 0} (tells : M → Option Log) (told : L → Option Log) (
     pub stands : WorldStands world after log
     pub did : JobDid told count Passes log turns run.job run.done core made after
 
-  -- The places of its calls rise: they stand in the order in which it made them. Whatever core the world stood for when it was handed in,
-  -- over each log that all readers tell, it was begun at that core.
+  -- The places of its calls rise: they stand in the order in which it made them. At one of them stands the adding of each task that its replies tell of.
+  -- Whatever core the world stood for when it was handed in, over each log that all readers tell, it was begun at that core.
   pub record JobRan (since : L → L → Type 0) (opened : Keeping) (source : M) (run : JobRun L) : Type 0 where
     pub logs : IsLater since run.job run.done
     pub rises : Rises run.places
+    pub added : AllByRecursion (IsAddedAt opened events run.places) (deleted_by run.done)
     pub at : (core : Core) (log : Log) → tells source ≡ Some log → WorldStands opened core log → JobAt run core log
 
 -- WHAT A RUN DID: the world that comes back stands for one list of calls, which leads from each core for which the world stood that was handed

@@ -14,6 +14,7 @@ use Rattle.thread_run.specs.declared.end_lines.ActorEnd.{ActorEnd}
 use Rattle.thread_run.specs.declared.end_lines.ActorEnd.TheVariants as ends
 use Rattle.thread_run.specs.Closing.{is_short_end}
 use Rattle.thread_run.specs.Replies.{RepliesFrom}
+use Rattle.thread_run.specs.SearcherReplies.{AreApart}
 use Rattle.thread_run.specs.declared.run_end.RunOptions.{RunOptions}
 use Rattle.thread_run.specs.RunExit.{IsSettled, KeepersEnd}
 
@@ -28,10 +29,11 @@ module _ (config : IndexConfig) (log : Log) (core exit : Core) where
       × EndsFrom indexers turns (suc place) left firsts lasts more
   EndsFrom indexers turns place (suc left) firsts lasts given = ⊥
 
-  -- WHAT A RUN SAID: a reply for each request, how each actor ended, none of them for want of memory, and what settling came to. The counts of faults of the logs
-  -- were the first ones and are the last ones.
+  -- WHAT A RUN SAID: a reply for each request, no two of which tell of the same delete, how each actor ended, none of them for want of memory, and what settling came
+  -- to. The counts of faults of the logs were the first ones and are the last ones.
   pub record RunSaid (options : RunOptions) (firsts lasts : List ℕ) (requests : List Request) (replies : List Reply) (ended : List ActorEnd) (settled : Option Settled) : Type 0 where
     pub replies_are : RepliesFrom (IsReplyTo config log exit.history (length core.history) core exit) [] requests replies
+    pub apart : AreApart replies
     pub ends_are : EndsFrom options.indexers options.turns 0 options.indexers firsts lasts ended
     pub remembered : AllByRecursion (λ one. is_short_end one ≡ false) ended
     pub settles : IsSettled options.settle settled core exit

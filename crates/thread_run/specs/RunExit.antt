@@ -18,6 +18,7 @@ use Rattle.thread_run.specs.Settling.{SettlesBy}
 use Rattle.thread_run.specs.declared.settling.Settled.{Settled}
 use Rattle.thread_run.specs.Closing.{is_short_end}
 use Rattle.thread_run.specs.Replies.{RepliesFrom}
+use Rattle.thread_run.specs.SearcherReplies.{AreApart}
 use Rattle.thread_run.specs.declared.end_lines.ActorEnd.{ActorEnd}
 use Rattle.thread_run.specs.declared.end_lines.ActorEnd.TheVariants as ends
 use Rattle.thread_run.specs.declared.run_end.RunEnd.{RunEnd}
@@ -76,6 +77,7 @@ pub record RunReached {S L : Type 0} (count : L → ℕ) (options : RunOptions) 
   pub goes_on : GoesFor Nobody core exit
   pub stands : WorldStands end.world exit log
   pub replies : end.memory ≡ false → RepliesFrom (IsReplyTo config log exit.history (length core.history) core exit) [] requests end.replies.items
+  pub apart : end.memory ≡ false → AreApart end.replies.items
   pub ends : end.memory ≡ false → EndsAre config log exit.history (length core.history) core exit options.turns count options.indexers 0 (take options.indexers logs) end.logs.items end.ends.items
   pub whole : end.memory ≡ false → AllByRecursion (λ one. is_short_end one ≡ false) end.ends.items
   pub settled : end.memory ≡ false → IsSettled options.settle end.settled core exit

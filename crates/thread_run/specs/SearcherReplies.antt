@@ -4,6 +4,7 @@ use Rattle.std.specs.List.{AllZip}
 use Rattle.index_config.specs.declared.config.IndexConfig.{IndexConfig}
 use Rattle.meta_journal.specs.declared.entry.Entry.{Entry}
 use Rattle.source_log.specs.Log.{Log}
+use Rattle.turn_lock.specs.Counts.{times}
 use Rattle.index_world.specs.Core.{Core}
 use Rattle.search_api.specs.declared.reply.Reply.{Reply}
 use Rattle.search_api.specs.declared.reply.Said.{Said}
@@ -21,6 +22,25 @@ with_deleted (Refused refusal) revision more = more
 abbrev pub deleted_at : List Reply → List ℕ
 deleted_at [] = []
 deleted_at (reply ∷ replies) = with_deleted reply.said reply.revision (deleted_at replies)
+
+-- their opstamps
+abbrev pub with_opstamp : Said → List ℕ → List ℕ
+with_opstamp (Found count hits aggregations) more = more
+with_opstamp (Deleted opstamp) more = opstamp ∷ more
+with_opstamp (Refused refusal) more = more
+
+abbrev pub opstamps_at : List Reply → List ℕ
+opstamps_at [] = []
+opstamps_at (reply ∷ replies) = with_opstamp reply.said (opstamps_at replies)
+
+-- NO TWO OF THESE REPLIES TELL OF THE SAME DELETE: each entry of the journal is named by one at most, and each opstamp is told by one at most.
+pub record AreApart (replies : List Reply) : Type 0 where
+  pub revisions : (revision : ℕ) → times revision (deleted_at replies) ≤ 1
+  pub opstamps : (opstamp : ℕ) → times opstamp (opstamps_at replies) ≤ 1
+
+-- of several clients
+abbrev pub deleted_in : List Answered → List ℕ
+deleted_in answered = flat_map (λ one. deleted_at one.replies.items) answered
 
 -- these numbers rise, between one and another
 abbrev pub RiseBetween : (low : ℕ) → List ℕ → (high : ℕ) → Type 0
@@ -40,4 +60,4 @@ module _ (config : IndexConfig) (log : Log) (entries : List Entry) (least : ℕ)
   pub record SearcherAnswered (askings : List Asking) (answered : List Answered) (short : Bool) : Type 0 where
     pub each : AllZip ClientAnswered (take (length answered) askings) answered
     pub all : short ≡ false → length answered ≡ length askings
-    pub apart : RiseBetween least (flat_map (λ one. deleted_at one.replies.items) answered) (length entries)
+    pub apart : RiseBetween least (deleted_in answered) (length entries)

@@ -7,10 +7,11 @@ use Rattle.turn_lock.specs.declared.lock.TurnLock.{TurnLock}
 use Rattle.index_world.specs.CallsMade.{CallMade}
 use Rattle.index_world.specs.Core.{Core}
 use Rattle.index_world.specs.Ran.{Ran}
-use Rattle.shared_gate.specs.Sharing.{Passes, Seat, SeatAdds, SeatBegins, SeatSince, SeatStands}
+use Rattle.shared_gate.specs.Sharing.{Passes, Seat, SeatAdds, SeatAnswers, SeatBegins, SeatSince, SeatStands}
 use Rattle.shared_gate.specs.declared.recorded.Event.{Event}
 use Rattle.shared_gate.specs.declared.recorded.Opening.{Opening}
 use Rattle.shared_gate.specs.declared.recorded.Recorded.{Recorded}
+use Rattle.thread_run.specs.Added.{JobAdded}
 use Rattle.thread_run.specs.Jobs.{IsFresh, IsLater, JobDid, Tells}
 use Rattle.thread_run.specs.declared.job.Done.{Done}
 use Rattle.thread_run.specs.declared.job.Job.{Job}
@@ -47,5 +48,6 @@ module _ {Lock S M L : Type 0} (tells : M → Option Log) (told : L → Option L
     pub did : after ≡ works.Did done
     pub later : SeatSince old new
     pub logs : IsLater since job done
+    pub added : JobAdded SeatSince SeatAnswers old new done
     pub ran : (core : Core) (log : Log) → IsLog log → Tells told log job → SeatStands tells old core log →
         Ran (SeatStands tells) SeatAdds (λ made behind. JobDid told count Passes log turns job done core made behind) core log old new

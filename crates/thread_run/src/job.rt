@@ -7,6 +7,7 @@ ghost use Rattle.index_world.specs.Ran.{Ran};
 ghost use Rattle.indexing_run.specs.Making.{IsAssigned};
 ghost use Rattle.indexing_run.specs.declared.indexer.IndexerPlace.TheVariants as places;
 ghost use Rattle.upkeep_run.specs.declared.work.Aim.TheVariants.{Deleting, Merging};
+ghost use Rattle.thread_run.specs.Added.{JobAdded};
 ghost use Rattle.thread_run.specs.Jobs.{AnsweredDid, CollectedDid, DeletedDid, IndexedDid, IsAnswered, IsCollected, IsDeleted, IsFresh, IsLater, IsMerged, JobDid, MergedDid, Tells};
 
 use crate::serving::{Answered, serve_clients};
@@ -65,6 +66,7 @@ fn answer<Rt: Threads + Sync, L: SourceLog, G: Gate, H: LeafHold>(
 ) -> Done<L>
     ensures later { G.since gate.old gate.new }
     ensures kind { IsAnswered result }
+    ensures added { JobAdded G.since G.Answers gate.old gate.new result }
     ensures ran { (core : Core) (log : Log) → IsLog log → G.Stands gate.old core log →
         Ran G.Stands G.Adds (λ made after. AnsweredDid G.Between log askings.items result core made after) core log gate.old gate.new }
 {
@@ -121,6 +123,7 @@ pub fn do_job<Rt: Threads + Sync, L: SourceLog, G: Gate, H: LeafHold>(
     requires begun { (log : Log) → G.Begins gate.old log → IsLog log × Tells L.told log job × ((core : Core) × G.Stands gate.old core log) }
     ensures later { G.since gate.old gate.new }
     ensures logs { IsLater L.since job result }
+    ensures added { JobAdded G.since G.Answers gate.old gate.new result }
     ensures ran { (core : Core) (log : Log) → IsLog log → Tells L.told log job → G.Stands gate.old core log →
         Ran G.Stands G.Adds (λ made after. JobDid L.told L.fault_count G.Between log turns job result core made after) core log gate.old gate.new }
 {

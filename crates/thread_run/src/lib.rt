@@ -2,6 +2,7 @@
 #![tactic(auto)]
 
 mod actor;
+mod answering;
 mod beginning;
 mod closing;
 mod crew;

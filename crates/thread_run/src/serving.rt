@@ -4,11 +4,13 @@ ghost use Rattle.std.specs.Prelude.{◌≡◌, ℕ, List, [], IsErr, IsOk, Match
 ghost use Rattle.source_log.specs.Log.{IsLog, Log};
 ghost use Rattle.index_world.specs.Core.{Core};
 ghost use Rattle.index_world.specs.Ran.{Ran};
+ghost use Rattle.thread_run.specs.Added.{AreAdded, HaveAdded};
 ghost use Rattle.thread_run.specs.Clients.{ClientsDid, ServedDid};
 
+use crate::answering::answer_all;
 use byte_fields::Client;
 use index_world::Gate;
-use root_search::{LeafHold, Searcher, answer_all};
+use root_search::{LeafHold, Searcher};
 use run_plan::Asking;
 use search_api::Reply;
 use std::alloc::{AllocError, Global};
@@ -32,6 +34,7 @@ fn serve_client<Rt: Threads + Sync, G: Gate, H: LeafHold>(
     hold: &H,
 ) -> Answered
     ensures later { G.since gate.old gate.new }
+    ensures added { AreAdded G.since G.Answers gate.old gate.new result.replies.items }
     ensures ran { (core : Core) (log : Log) → IsLog log → G.Stands gate.old core log →
         Ran G.Stands G.Adds (λ made after. ServedDid G.Between log asking result core made after) core log gate.old gate.new }
 {
@@ -63,6 +66,7 @@ pub fn serve_clients<Rt: Threads + Sync, G: Gate, H: LeafHold>(
 ) -> Result<(), AllocError>
     requires none { answered.old.items ≡ [] }
     ensures later { G.since gate.old gate.new }
+    ensures added { HaveAdded G.since G.Answers gate.old gate.new answered.new.items }
     ensures ran { (core : Core) (log : Log) → IsLog log → G.Stands gate.old core log →
         Ran G.Stands G.Adds (λ made after. ClientsDid G.Between log askings.items answered.new.items result core made after) core log gate.old gate.new }
 {

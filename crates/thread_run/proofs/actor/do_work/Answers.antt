@@ -1,5 +1,6 @@
 use Rattle.std.proofs.Common.{◌≡◌, ◌∙◌, refl, sym}
-use Rattle.shared_gate.specs.Sharing.{seat_of}
+use Rattle.shared_gate.specs.Sharing.{SeatAnswers, SeatSince, seat_of}
+use Rattle.thread_run.proofs.Adding.{seen_added}
 use Rattle.thread_run.proofs.Ready.{ready_as}
 use Rattle.thread_run.proofs.actor.do_work.Goals as goal
 
@@ -24,6 +25,7 @@ returns g c = record {
   did = c.put.ensures;
   later = c.do_job-done.ensures.later;
   logs = c.do_job-done.ensures.logs;
+  added = seen_added (λ w. seat_of w.lock.now w.pass w.config.now w.home) SeatSince SeatAnswers c.args.actor.now.gate _ _ c.do_job-done.ensures.added;
   ran = λ core log is tells stands. (
       let r = c.do_job-done.ensures.ran core log is tells stands in
       record { made = r.made; after = r.after; own = r.own; goes_on = r.goes_on; stands = r.stands; did = r.did });

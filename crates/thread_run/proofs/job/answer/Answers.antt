@@ -22,3 +22,9 @@ returns-in-Err-clause-ran g c core log is stands =
     ran_as t.Stands t.Adds (λ made after. ClientsDid t.Between log c.args.askings.items c.serve_clients.new.answered.items c.serve_clients.result core made after)
     (λ made after. AnsweredDid {L = g.row.L.Denot} t.Between log c.args.askings.items (done.Answered c.serve_clients.new.answered true) core made after) core log c.args.gate.now c.serve_clients.new.gate
     (λ made after did. (c.serve_clients.result, subst P (sym c.in-Err.is) refl, did)) (c.serve_clients.ensures.ran core log is stands)
+
+pub returns-in-Ok-clause-added : goal.returns-in-Ok-clause-added
+returns-in-Ok-clause-added g c = c.serve_clients.ensures.added
+
+pub returns-in-Err-clause-added : goal.returns-in-Err-clause-added
+returns-in-Err-clause-added g c = c.serve_clients.ensures.added

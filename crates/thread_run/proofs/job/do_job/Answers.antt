@@ -5,6 +5,7 @@ use Rattle.index_world.specs.Core.{Core}
 use Rattle.index_world.specs.Ran.{Ran}
 use Rattle.thread_run.specs.Jobs.{IsFresh, IsLater, JobDid, Tells}
 use Rattle.thread_run.specs.declared.job.Job.{Job}
+use Rattle.thread_run.proofs.Adding.{collected_added, index_added, merged_added, worked_added}
 use Rattle.thread_run.proofs.job.do_job.Goals as goal
 
 pub index-requires-clause-idle : goal.index-requires-clause-idle
@@ -59,3 +60,18 @@ returns-in-Collect-clause-ran g c core log is tells stands =
     let t = g.G.Gate in
     subst (λ (job : Job g.row.L.Denot). Ran t.Stands t.Adds (λ made after. JobDid g.L.SourceLog.told g.L.SourceLog.fault_count t.Between log c.args.turns job c.collect.result core made after) core log c.args.gate.now c.collect.new.gate) (sym c.in-Collect.is)
     (c.collect.ensures.ran core log stands)
+
+pub returns-in-Index-clause-added : goal.returns-in-Index-clause-added
+returns-in-Index-clause-added g c = index_added g.G.Gate.since g.G.Gate.Answers _ _ g.L.SourceLog.since _ c.index.result c.index.ensures.logs
+
+pub returns-in-Answer-clause-added : goal.returns-in-Answer-clause-added
+returns-in-Answer-clause-added g c = c.answer.ensures.added
+
+pub returns-in-Merge-clause-added : goal.returns-in-Merge-clause-added
+returns-in-Merge-clause-added g c = merged_added g.G.Gate.since g.G.Gate.Answers _ _ c.merge.result c.merge.ensures.kind
+
+pub returns-in-Delete-clause-added : goal.returns-in-Delete-clause-added
+returns-in-Delete-clause-added g c = worked_added g.G.Gate.since g.G.Gate.Answers _ _ c.delete.result c.delete.ensures.kind
+
+pub returns-in-Collect-clause-added : goal.returns-in-Collect-clause-added
+returns-in-Collect-clause-added g c = collected_added g.G.Gate.since g.G.Gate.Answers _ _ c.collect.result c.collect.ensures.kind

@@ -33,3 +33,9 @@ returns-clause-ran g c core log is stands =
     (λ made after. ServedDid t.Between log asking answered core made after) core log c.args.gate.now c.answer_all.new.gate
     (λ made after did. record { client = refl; searcher = c.answer_all.new.searcher; result = c.answer_all.result; short = subst P (sym c.in-Err.is) refl; did = did })
     (c.answer_all.ensures.ran (new_client asking.client) core log is stands (c.start-searcher.ensures core log))
+
+pub returns-in-Ok-clause-added : goal.returns-in-Ok-clause-added
+returns-in-Ok-clause-added g c = c.answer_all.ensures.added
+
+pub returns-clause-added : goal.returns-clause-added
+returns-clause-added g c = c.answer_all.ensures.added

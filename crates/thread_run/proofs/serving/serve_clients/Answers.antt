@@ -7,6 +7,9 @@ use Rattle.index_world.specs.Ran.{Ran}
 use Rattle.thread_run.specs.Clients.{ClientsDid}
 use Rattle.thread_run.specs.declared.serving.Answered.{Answered}
 use Rattle.run_plan.specs.declared.clients.Asking.{Asking}
+use Rattle.thread_run.specs.Added.{HaveAdded, IsAdded}
+use Rattle.thread_run.specs.SearcherReplies.{deleted_at, deleted_in}
+use Rattle.thread_run.proofs.Adding.{added_from, added_on, clients_push}
 use Rattle.thread_run.proofs.ClientsServed.{SoServed, none_served, one_served, served_up_to}
 use Rattle.thread_run.proofs.serving.serve_clients.Goals as goal
 
@@ -21,6 +24,7 @@ loop-asking-init g c =
       λ core log is stands.
           let P : List Answered → Type 0 = λ answered. SoServed t.Stands t.Between t.Adds [] answered core log c.args.gate.now c.args.gate.now in
           subst P (sym c.requires.none) (none_served t.Stands t.Between t.Adds g.met.G.Gate.adds_none core log c.args.gate.now stands),
+      subst (λ (l : List Answered). HaveAdded t.since t.Answers c.args.gate.now c.args.gate.now l) (sym c.requires.none) tt,
     )
 
 pub loop-asking-preserved : goal.loop-asking-preserved
@@ -39,4 +43,8 @@ loop-asking-preserved g c =
           let P : List Answered → Type 0 = λ answered. SoServed t.Stands t.Between t.Adds (c.loop-asking.yielded ++ c.in-Some.asking ∷ []) answered core log c.args.gate.now c.serve_client-one.new.gate in
           subst P (sym items) (one_served t.Stands t.Between t.Adds g.met.G.Gate.adds_more c.loop-asking.yielded c.loop-asking.answered.items core log c.args.gate.now c.loop-asking.gate c.serve_client-one.new.gate so_far
           c.in-Some.asking c.serve_client-one.result ran),
+      subst (λ (l : List Answered). HaveAdded t.since t.Answers c.args.gate.now c.serve_client-one.new.gate l) (sym items)
+          (clients_push (IsAdded t.since t.Answers c.args.gate.now c.serve_client-one.new.gate) c.loop-asking.answered.items c.serve_client-one.result
+          (added_on t.since t.Answers g.met.G.Gate.since_more c.args.gate.now c.loop-asking.gate c.serve_client-one.new.gate c.serve_client-one.ensures.later (deleted_in c.loop-asking.answered.items) c.loop-asking.invariant.5)
+          (added_from t.since t.Answers g.met.G.Gate.since_more c.args.gate.now c.loop-asking.gate c.serve_client-one.new.gate c.loop-asking.invariant.3 (deleted_at c.serve_client-one.result.replies.items) c.serve_client-one.ensures.added)),
     )

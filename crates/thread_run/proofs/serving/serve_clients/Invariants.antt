@@ -2,6 +2,7 @@ use Rattle.std.proofs.Common.{◌++◌, ◌≡◌}
 use Rattle.std.specs.Vec.Iter.{into_iter_items}
 use Rattle.source_log.specs.Log.{IsLog, Log}
 use Rattle.index_world.specs.Core.{Core}
+use Rattle.thread_run.specs.Added.{HaveAdded}
 use Rattle.thread_run.proofs.ClientsServed.{SoServed}
 use Rattle.thread_run.proofs.serving.serve_clients.Given as goal
 
@@ -13,3 +14,4 @@ invariant-loop-asking g l =
     × g.G.Gate.since l.fn.gate l.gate
     × ((core : Core) (log : Log) → IsLog log → g.G.Gate.Stands l.fn.gate core log →
     SoServed g.G.Gate.Stands g.G.Gate.Between g.G.Gate.Adds l.yielded l.answered.items core log l.fn.gate l.gate)
+    × HaveAdded g.G.Gate.since g.G.Gate.Answers l.fn.gate l.gate l.answered.items
