@@ -43,14 +43,14 @@ use Rattle.thread_run.specs.Ends.{CollectorEnded, FaultsCollector, FaultsIndexer
 use Rattle.thread_run.specs.JobSays.{AnsweredSays, CollectedSays, DeletedSays, IndexedSays, JobSays, MergedSays}
 use Rattle.thread_run.specs.SearcherReplies.{ClientAnswered}
 
-never_rose : (first last before now : ℕ) → StoodStill first last → first ≤ before → Rose before now → now ≤ last → ⊥
+pub never_rose : (first last before now : ℕ) → StoodStill first last → first ≤ before → Rose before now → now ≤ last → ⊥
 never_rose first last before now still low rose high =
     let same = still.0 in
     let below = still.1 in
     omega (arith, same, below, low, rose, high)
 
 module _ (config : IndexConfig) (log : Log) (entries : List Entry) (least : ℕ) (core exit : Core) (still : StoodStill core.store_faults exit.store_faults) where
-  never_caused : (before now : ℕ) → IsCause before now core exit → ⊥
+  pub never_caused : (before now : ℕ) → IsCause before now core exit → ⊥
   never_caused before now c = never_rose core.store_faults exit.store_faults before now still c.0 c.1 c.2
 
   -- ---- ends

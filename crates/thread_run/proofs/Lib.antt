@@ -65,4 +65,5 @@ pub mod Says
 pub mod AllEnds
 pub mod RequestReplies
 pub mod Did
+pub mod Completing
 pub mod RunCounts

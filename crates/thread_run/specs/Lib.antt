@@ -32,3 +32,4 @@ pub mod RunExit
 pub mod RunAll
 pub mod RunDid
 pub mod Settled
+pub mod RunComplete

@@ -33,7 +33,7 @@ pub use job::{Done, Job, do_job};
 pub use passes::join_all;
 pub use planning::{Plan, planned};
 pub use run_end::{RunEnd, RunOptions};
-pub use run_laws::{calls_are_seen, calm_says, job_says, run_says};
+pub use run_laws::{calls_are_seen, calm_says, completes, job_says, run_says};
 pub use settling::{Settled, settle, settles_wholly};
 pub use sharing::shared_out;
 pub use sources::Sources;

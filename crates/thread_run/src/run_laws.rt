@@ -1,7 +1,7 @@
 //! Laws of what a run says at its exit, over the definitions alone.
 
-ghost use Rattle.std.specs.Prelude.{◌≡◌, ◌≤◌, ℕ, List, length, Some};
-ghost use Rattle.std.specs.List.{AllByRecursion};
+ghost use Rattle.std.specs.Prelude.{◌≡◌, ◌<◌, ◌≤◌, ℕ, List, length, Option, Some};
+ghost use Rattle.std.specs.List.{AllByRecursion, AllZip};
 ghost use Rattle.byte_fields.specs.Causes.{last_count};
 ghost use Rattle.index_config.specs.declared.config.IndexConfig.{IndexConfig};
 ghost use Rattle.index_world.specs.CallsMade.{CallMade};
@@ -13,11 +13,19 @@ ghost use Rattle.thread_run.specs.Run.{IsRun};
 ghost use Rattle.thread_run.specs.Jobs.{JobDid, Tells};
 ghost use Rattle.shared_gate.specs.Recording.{Begun, IsLinked, last_world};
 ghost use Rattle.shared_gate.specs.Sharing.{AtPlaces, Passes};
-ghost use Rattle.source_log.specs.Log.{IsLog, Log};
+ghost use Rattle.source_log.specs.Log.{IsLog, Log, names_of};
 ghost use Rattle.meta_journal.specs.declared.entry.Entry.{Entry};
 ghost use Rattle.thread_run.specs.RunCalm.{IsCalmDone, LogsStoodStill, StoodStill};
 ghost use Rattle.thread_run.specs.JobSays.{IsCounted, JobSays};
 ghost use Rattle.thread_run.specs.Meanwhile.{IsBefore, IsCalled};
+ghost use Rattle.indexing_run.specs.IndexLaws.{most_partitions};
+ghost use Rattle.run_plan.specs.declared.clients.Request.{Request};
+ghost use Rattle.search_api.specs.declared.reply.Reply.{Reply};
+ghost use Rattle.thread_run.specs.RunAll.{RunSaid};
+ghost use Rattle.thread_run.specs.RunComplete.{HadRoom, IsComplete};
+ghost use Rattle.thread_run.specs.declared.end_lines.ActorEnd.{ActorEnd};
+ghost use Rattle.thread_run.specs.declared.run_end.RunOptions.{RunOptions as Options};
+ghost use Rattle.thread_run.specs.declared.settling.Settled.{Settled};
 
 use crate::{Done, Job};
 use clock_time::Clock;
@@ -55,4 +63,11 @@ pub fn run_says<S: ObjectStore, K: Clock, M: SourceLog, L: SourceLog>()
         WorldStands last.world end log → last.world.store_faults ≤ last_count → IsBefore end exit → IsSoundCore exit log → AsksTexts config →
         AllByRecursion (Tells L.told log) jobs → AllByRecursion (IsCounted L.fault_count) jobs →
         AllByRecursion (λ one. JobSays L.fault_count config log exit.history (length core.history) core exit turns (length one.places) one.job one.done) run.runs }
+{}
+
+/// Where no count of faults rose and no limit was reached, a run that said this did all that was asked.
+pub fn completes()
+    ensures { (config : IndexConfig) (log : Log) (core exit : Core) (options : Options) (firsts lasts : List ℕ) (requests : List Request) (replies : List Reply) (ended : List ActorEnd) (told : Option Settled) →
+        RunSaid config log core exit options firsts lasts requests replies ended told → 0 < options.indexers → StoodStill core.store_faults exit.store_faults → AllZip StoodStill firsts lasts →
+        HadRoom exit.history (length core.history) → length (names_of log) ≤ most_partitions → IsComplete config log exit options requests replies ended told }
 {}
