@@ -40,8 +40,6 @@ pub mod Steps
 pub mod TaskCalls
 pub mod TaskReads
 pub mod DeleteLaws
-pub mod Requesting
-pub mod Replying
 pub mod Entered
 pub mod CallFaults
 pub mod FirstReplies

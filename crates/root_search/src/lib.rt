@@ -2,7 +2,6 @@
 #![tactic(auto)]
 
 mod answer_laws;
-mod answering;
 mod answers;
 mod asking;
 mod delete_laws;
@@ -25,7 +24,6 @@ mod shares;
 mod step_laws;
 
 pub use answer_laws::same_answers;
-pub use answering::{answer, answer_all};
 pub use delete_laws::task_laws;
 pub use leaf_hold::{LeafHold, NoHold};
 pub use outcome::{SearchStep, print_outcome};
