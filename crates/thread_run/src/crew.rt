@@ -108,6 +108,17 @@ fn all_work<
     );
 }
 
+// What came of a job that is done.
+fn done_in<L: SourceLog>(work: Work<L>) -> Done<L>
+    requires { (done : _) × (work ≡ works.Did done) }
+    ensures { work ≡ works.Did result }
+{
+    match work {
+        Work::Did(done) => done,
+        _ => unreachable!(),
+    }
+}
+
 // What came of their jobs, in their order, and their passes.
 fn part<'a, R, S: ObjectStore, K: Clock, M: SourceLog, L: SourceLog>(
     actors: Vec<Actor<'a, R, Recorded<S, K, M>, L>>,
@@ -124,10 +135,7 @@ fn part<'a, R, S: ObjectStore, K: Clock, M: SourceLog, L: SourceLog>(
     let mut passes = passes;
     for actor in actors {
         let Actor { work, gate } = actor;
-        let Work::Did(done) = work else {
-            unreachable!()
-        };
-        push_within(&mut all, done);
+        push_within(&mut all, done_in(work));
         push_within(&mut passes, gate.into_pass());
     }
     (all, passes)

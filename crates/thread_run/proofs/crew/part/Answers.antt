@@ -17,7 +17,7 @@ loop-actor-preserved g c =
       tt,
       tt,
       taken,
-      zip_pushed c.loop-actor.yielded c.loop-actor.all.items first.new.all.items c.in-Some.actor _ (λ actor done. actor.work ≡ works.Did done) first.ensures.items inv.3 c.in-Did.is,
+      zip_pushed c.loop-actor.yielded c.loop-actor.all.items first.new.all.items c.in-Some.actor _ (λ actor done. actor.work ≡ works.Did done) first.ensures.items inv.3 c.done_in.ensures,
       map_pushed c.loop-actor.yielded c.loop-actor.passes.items second.new.all.items c.in-Some.actor _ (λ actor. actor.gate.pass) second.ensures.items inv.4 c.into_pass.ensures,
       (
         (let k = long_push c.loop-actor.all.items first.new.all.items _ first.ensures.items in let v = inv.5.0 in let a = c.loop-actor.all.ok.0 in let b = first.new.all.ok.0 in omega (arith, k, v, a, b, long)),
