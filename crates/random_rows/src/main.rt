@@ -4,23 +4,59 @@
 //! the program: the first seed, how many schedules, and `counts`, with which it also prints what they came to.
 #![tactic(auto)]
 
+mod asked;
+mod clients;
+mod counts;
+mod dice;
+mod failing_store;
+mod plain;
 mod playing;
+mod shown;
+mod wrong;
 
-use crate::playing::played;
-use plain_lives::{Counts, Schedule, Wrong, number_in};
+use crate::counts::Counts;
+use crate::playing::Schedule;
+use crate::wrong::Wrong;
 use std::alloc::Global;
 use std::thread::Threads;
 use std::{env, io};
 
+fn number(text: Option<String>, otherwise: u64) -> u64 {
+    match text {
+        Some(text) => text.parse::<u64>().unwrap_or(otherwise),
+        None => otherwise,
+    }
+}
+
 fn play<Rt: Threads + Sync>(rt: &Rt, alloc: Global, seed: u64) -> Result<Counts, Wrong> {
     let mut schedule = Schedule::drawn(alloc, seed)?;
-    played(rt, &mut schedule)
+    schedule.played(rt)
+}
+
+fn print_counts(rt: &HostRuntime, counts: &Counts) -> io::Result<()> {
+    let Counts {
+        entries,
+        answers,
+        faults,
+        merges,
+        deletes,
+        raises,
+        removals,
+        documents,
+        removed,
+        parted,
+    } = *counts;
+    println!(rt; "{entries} entries, {answers} answers, {faults} failed calls, {merges} merges")?;
+    println!(rt;
+        "{deletes} deletes, {raises} raises, {removals} removals, {removed} of {documents} documents removed"
+    )?;
+    println!(rt; "{parted} schedules in which some documents were removed and others were left")
 }
 
 fn main(rt: HostRuntime) -> io::Result<()> {
     let mut words = env::args(&rt)?.skip(1);
-    let first = number_in(words.next(), 1);
-    let count = number_in(words.next(), 1_000);
+    let first = number(words.next(), 1);
+    let count = number(words.next(), 1_000);
     let is_counted = words.next().is_some();
     let mut wrong: u64 = 0;
     let mut counts = Counts::none();
@@ -36,8 +72,7 @@ fn main(rt: HostRuntime) -> io::Result<()> {
     }
     println!(rt; "{count} schedules, {wrong} wrong")?;
     if is_counted {
-        let text = counts.text(rt.alloc())?;
-        print!(rt; "{text}")?;
+        print_counts(&rt, &counts)?;
     }
     Ok(())
 }

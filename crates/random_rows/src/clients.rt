@@ -24,22 +24,6 @@ pub enum Request {
     Delete(Asked),
 }
 
-impl Request {
-    /// Its text.
-    pub fn text(self, alloc: Global) -> Result<String, Wrong> {
-        match self {
-            Request::Search(asked) => {
-                let keys = asked.text(alloc)?;
-                Ok(format!(in alloc; "{{\"search\":{{{keys},\"max_hits\":100}}}}")?)
-            }
-            Request::Delete(asked) => {
-                let keys = asked.text(alloc)?;
-                Ok(format!(in alloc; "{{\"delete\":{{{keys}}}}}")?)
-            }
-        }
-    }
-}
-
 // A client: the request that it waits for, and the last revision that it saw.
 #[derive(Clone, Copy)]
 struct Asker {
@@ -127,13 +111,6 @@ impl Clients {
     pub fn restart_client(&mut self, number: usize) {
         if let Some(asker) = self.askers.get_mut(number) {
             asker.waits = None;
-        }
-    }
-
-    /// The clients saw this revision: no answer from here on is older.
-    pub fn begin_at(&mut self, revision: u64) {
-        for asker in self.askers.iter_mut() {
-            asker.seen = asker.seen.max(revision);
         }
     }
 
@@ -233,8 +210,7 @@ impl Clients {
         Ok(())
     }
 
-    /// Whether each answer is the one that the plain list gives at its revision, no two answers name one task, and each task was asked
-    /// for.
+    /// Whether each answer is the one that the plain list gives at its revision, and each task was asked for.
     pub fn judge(&self, plain: &Plain, entries: &[Entry]) -> Result<(), Wrong> {
         for answer in self.answers.as_slice() {
             self.judge_answer(plain, entries, answer)?;
@@ -242,7 +218,6 @@ impl Clients {
         let shown = Shown::by(self.alloc, entries)?;
         for deleted in self.deleted.as_slice() {
             self.judge_delete(&shown, entries, deleted)?;
-            self.judge_alone(deleted)?;
         }
         for opstamp in 1..shown.kinds.deletes.saturating_add(1) {
             self.judge_task(&shown, opstamp)?;
@@ -293,31 +268,9 @@ impl Clients {
         }
     }
 
-    // No other answer names the task of this one.
-    fn judge_alone(&self, deleted: &Deleted) -> Result<(), Wrong> {
-        let opstamp = deleted.opstamp;
-        let answers = self
-            .deleted
-            .iter()
-            .filter(|other| other.opstamp == opstamp)
-            .count();
-        if answers == 1 {
-            return Ok(());
-        }
-        Err(Wrong::seen(
-            self.alloc,
-            "a task of another answer:",
-            deleted.text.as_str(),
-        ))
-    }
-
-    // Tasks like this one are no more than the deletes that asked for it.
     fn judge_task(&self, shown: &Shown, opstamp: u64) -> Result<(), Wrong> {
         let is_asked = match shown.task(opstamp) {
-            Some(task) => {
-                let asked = self.deletes.iter().filter(|asked| **asked == task);
-                shown.tasks_like(task) <= asked.count()
-            }
+            Some(task) => self.deletes.iter().any(|asked| *asked == task),
             None => false,
         };
         if is_asked {

@@ -1,7 +1,5 @@
 //! What schedules came to.
 
-use std::alloc::{AllocError, Global};
-
 /// How much of each thing there was.
 #[derive(Clone, Copy)]
 pub struct Counts {
@@ -46,31 +44,5 @@ impl Counts {
         self.documents = self.documents.saturating_add(more.documents);
         self.removed = self.removed.saturating_add(more.removed);
         self.parted = self.parted.saturating_add(more.parted);
-    }
-
-    /// Three lines.
-    pub fn text(&self, alloc: Global) -> Result<String, AllocError> {
-        let Counts {
-            entries,
-            answers,
-            faults,
-            merges,
-            deletes,
-            raises,
-            removals,
-            documents,
-            removed,
-            parted,
-        } = *self;
-        let first = format!(in alloc;
-            "{entries} entries, {answers} answers, {faults} failed calls, {merges} merges\n"
-        )?;
-        let second = format!(in alloc;
-            "{deletes} deletes, {raises} raises, {removals} removals, {removed} of {documents} documents removed\n"
-        )?;
-        let third = format!(in alloc;
-            "{parted} schedules in which some documents were removed and others were left\n"
-        )?;
-        format!(in alloc; "{first}{second}{third}")
     }
 }

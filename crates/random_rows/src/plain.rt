@@ -4,7 +4,6 @@ use crate::asked::{Asked, Document};
 use crate::dice::Dice;
 use crate::shown::{Seen, Shown};
 use crate::wrong::Wrong;
-use meta_store::Meta;
 use source_checkpoint::Partition;
 use source_log::MemoryLog;
 use std::alloc::Global;
@@ -150,69 +149,6 @@ impl Plain {
                 shown.is_done(&source.partition, offset as u64)
             })
         })
-    }
-
-    /// Whether all tasks were asked of each record that is shown.
-    pub fn is_applied(&self, shown: &Shown) -> bool {
-        self.sources.iter().all(|source| {
-            (0..source.records.len()).all(|offset| {
-                shown.is_applied(&source.partition, offset as u64)
-            })
-        })
-    }
-
-    /// Up to where each partition is taken in, as the state of an index has it.
-    pub fn marks_of(&self, meta: &Meta) -> Result<Vec<u64>, Wrong> {
-        let mut marks = Vec::new(self.alloc);
-        for source in self.sources.as_slice() {
-            marks.push(meta.checkpoint(&source.partition))?;
-        }
-        Ok(marks)
-    }
-
-    // How many of the first records of a partition are shown. Each of them is shown once, and no other one.
-    fn count_shown(&self, source: &Source, shown: &Shown) -> Result<u64, Wrong> {
-        let mut count: u64 = 0;
-        for (offset, record) in source.records.iter().enumerate() {
-            match shown.seen(&source.partition, offset as u64) {
-                Seen::Nowhere => {}
-                Seen::Once(_) if count == offset as u64 => count = count.saturating_add(1),
-                _ => {
-                    let text = record.text.as_str();
-                    return Err(Wrong::seen(self.alloc, "twice, or without those before it:", text));
-                }
-            }
-        }
-        Ok(count)
-    }
-
-    /// Whether each record below the marks of the partitions is shown once, and none above.
-    pub fn is_shown_below(&self, shown: &Shown, marks: &[u64]) -> Result<bool, Wrong> {
-        let mut is_so = self.sources.len() == marks.len();
-        for (source, mark) in self.sources.iter().zip(marks) {
-            is_so &= self.count_shown(source, shown)? == *mark;
-        }
-        Ok(is_so)
-    }
-
-    /// Whether the marks of one of so many indexers' partitions are their ends. Those without records are of no indexer.
-    pub fn is_read(&self, marks: &[u64], indexers: u64, indexer: u64) -> bool {
-        let mut turn: u64 = 0;
-        for (source, mark) in self.sources.iter().zip(marks) {
-            let end = source.records.len() as u64;
-            if end == 0 {
-                continue;
-            }
-            if turn == indexer && *mark != end {
-                return false;
-            }
-            turn = if turn.saturating_add(1) < indexers {
-                turn.saturating_add(1)
-            } else {
-                0
-            };
-        }
-        true
     }
 
     /// How many documents there are.

@@ -255,11 +255,6 @@ impl Shown {
         None
     }
 
-    /// How many tasks ask for this.
-    pub fn tasks_like(&self, asked: Asked) -> usize {
-        self.tasks.iter().filter(|task| task.asked == asked).count()
-    }
-
     /// Whether a task removes a document: one behind its staging that was asked of it and finds it.
     pub fn removes(&self, since: Since, document: Document) -> bool {
         for task in self.tasks.as_slice() {
@@ -287,15 +282,6 @@ impl Shown {
             }
         }
         seen
-    }
-
-    /// Whether a record is not shown, or each task was asked of it or stood before it was staged.
-    pub fn is_applied(&self, partition: &Partition, offset: u64) -> bool {
-        match self.seen(partition, offset) {
-            Seen::Nowhere => true,
-            Seen::Once(since) => since.asked == self.last_task(),
-            Seen::Twice => false,
-        }
     }
 
     /// Whether a record is shown once, and each task was asked of it or stood before it was staged.
